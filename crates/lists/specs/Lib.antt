@@ -1,0 +1,4 @@
+pub mod Indices
+pub mod Output
+pub mod Part
+pub mod Table

@@ -1,0 +1,113 @@
+// Methylation: chemistries, conversion patterns and annotations, from methylation.rs and lib.rs. Uses dna and flags.
+ghost use mathlib.Core.Path.{_≡_};
+ghost use Rattle.methylation.specs.Methylation.{isEnabled, patternOfFlags, patternBases, isAnnotated, isCg, isCpgContext};
+use dna::eq_ignore_ascii_case;
+use flags::LAST_SEGMENT;
+use flags::is_set;
+
+// The chemistry, which decides whether a converted base is methylated.
+pub enum MethylationMode {
+    // Conversions are errors, and there are no tags.
+    Disabled,
+    // An unconverted base is methylated.
+    EmSeq,
+    // A converted base is methylated.
+    Taps,
+}
+
+impl MethylationMode {
+    pub fn is_enabled(self) -> bool
+        ensures { λ r. ⌜ r ≡ isEnabled self ⌝ }
+    {
+        match self {
+            MethylationMode::Disabled => false,
+            MethylationMode::EmSeq => true,
+            MethylationMode::Taps => true,
+        }
+    }
+}
+
+// How a read shows conversions, in the orientation in which it was sequenced.
+pub enum ConversionPattern {
+    CToT,
+    GToA,
+}
+
+// The reference base that a pattern tracks, and how a read shows it unconverted and converted.
+pub struct PatternBases {
+    pub reference: u8,
+    pub unconverted: u8,
+    pub converted: u8,
+}
+
+impl ConversionPattern {
+    // A read with the flag 0x80 is of pattern G to A, any other of C to T.
+    pub fn from_read_flags(read_flags: u16) -> Self
+        ensures { λ r. ⌜ r ≡ patternOfFlags «read_flags» ⌝ }
+    {
+        if is_set(read_flags, LAST_SEGMENT) {
+            ConversionPattern::GToA
+        } else {
+            ConversionPattern::CToT
+        }
+    }
+
+    pub fn bases(self) -> PatternBases
+        ensures { λ r. ⌜ r ≡ patternBases self ⌝ }
+    {
+        match self {
+            ConversionPattern::CToT => PatternBases {
+                reference: b'C',
+                unconverted: b'C',
+                converted: b'T',
+            },
+            ConversionPattern::GToA => PatternBases {
+                reference: b'G',
+                unconverted: b'G',
+                converted: b'A',
+            },
+        }
+    }
+}
+
+// The pattern of a strand's annotation. Without one, the evidence arrays are not looked at.
+pub enum Annotation {
+    Absent,
+    Of(ConversionPattern),
+}
+
+pub fn is_annotated(annotation: Annotation) -> bool
+    ensures { λ r. ⌜ r ≡ isAnnotated annotation ⌝ }
+{
+    match annotation {
+        Annotation::Absent => false,
+        Annotation::Of(_) => true,
+    }
+}
+
+fn is_cg(first: u8, second: u8) -> bool
+    ensures { λ r. ⌜ r ≡ isCg first second ⌝ }
+{
+    eq_ignore_ascii_case(first, b'C') & eq_ignore_ascii_case(second, b'G')
+}
+
+// Whether a position of the reference is in a CpG: on the top strand a C followed by a G, on the bottom strand a G after a C,
+// in any case.
+pub fn is_cpg_context(ref_seq: &[u8], pos: usize, is_top_strand: bool) -> bool
+    ensures { λ r. ⌜ r ≡ isCpgContext (now («ref_seq» .entry)) pos «is_top_strand» ⌝ }
+{
+    if ref_seq.len() <= pos {
+        return false;
+    }
+    if is_top_strand {
+        let next = pos + 1;
+        if ref_seq.len() <= next {
+            return false;
+        }
+        return is_cg(ref_seq[pos], ref_seq[next]);
+    }
+    if pos == 0 {
+        return false;
+    }
+    is_cg(ref_seq[pos - 1], ref_seq[pos])
+}
