@@ -1,47 +1,11 @@
-// Caps and saturating sums at the widths in use. Uses nothing.
-ghost use mathlib.Core.Path.{_≡_};
-ghost use Prim.Native.Nat.{min, max};
-ghost use Rattle.numbers.specs.Numbers.{saturatingAdd};
+// The smaller and the larger of two numbers, and sums held to the largest number of a type, a module for each width in use.
+// Uses nothing.
+mod u16s;
+mod u32s;
 
-pub fn min_u16(a: u16, b: u16) -> u16
-    ensures { λ r. ⌜ r ≡ min a b ⌝ }
-{
-    if a < b { a } else { b }
-}
-
-pub fn max_u16(a: u16, b: u16) -> u16
-    ensures { λ r. ⌜ r ≡ max a b ⌝ }
-{
-    if a < b { b } else { a }
-}
-
-pub fn min_u32(a: u32, b: u32) -> u32
-    ensures { λ r. ⌜ r ≡ min a b ⌝ }
-{
-    if a < b { a } else { b }
-}
-
-pub fn max_u32(a: u32, b: u32) -> u32
-    ensures { λ r. ⌜ r ≡ max a b ⌝ }
-{
-    if a < b { b } else { a }
-}
-
-// The sum, held to the largest number of the type.
-pub fn saturating_add_u16(a: u16, b: u16) -> u16
-    ensures { λ r. ⌜ r ≡ saturatingAdd 16 a b ⌝ }
-{
-    let sum = a as u32 + b as u32;
-    if sum < 65535 { sum as u16 } else { 65535 }
-}
-
-pub fn saturating_add_u32(a: u32, b: u32) -> u32
-    ensures { λ r. ⌜ r ≡ saturatingAdd 32 a b ⌝ }
-{
-    let sum = a as u64 + b as u64;
-    if sum < 4294967295 {
-        sum as u32
-    } else {
-        4294967295
-    }
-}
+pub use u16s::max_u16;
+pub use u16s::min_u16;
+pub use u16s::saturating_add_u16;
+pub use u32s::max_u32;
+pub use u32s::min_u32;
+pub use u32s::saturating_add_u32;

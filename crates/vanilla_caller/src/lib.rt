@@ -1,44 +1,19 @@
-// The strand, from vanilla_caller.rs: a single-strand consensus as lent slices, its depths and its padding.
-// Uses lists, refusals, numbers, dna, phred and methylation.
+// The strand, from vanilla_caller.rs: a single-strand consensus as lent slices (bases, qualities, depths and errors, and perhaps
+// an annotation's marks and counts), what refuses it, and its depths. Uses lists, refusals and numbers.
 ghost use mathlib.Core.Path.{_≡_};
-ghost use mathlib.Core.Bool.{cond};
-ghost use Prim.Native.Nat.{_≤_, _-_};
-ghost use mathlib.Core.List.{map};
-ghost use lib.ListN.{length, take};
-ghost use Rattle.lists.specs.Output.{put};
-ghost use Rattle.refusals.specs.Refusal.{refusal};
 ghost use Rattle.numbers.specs.Numbers.{largest, smallest};
 ghost use Rattle.vanilla_caller.specs.Depth.{maxDepth, minDepth};
-ghost use Rattle.vanilla_caller.specs.Strand.{arrays, mark, strandTooLong, strandRagged, outputsTooShort};
-ghost use Rattle.vanilla_caller.specs.Padding.{padding, defaultPadding, padTo, kept, keeps, paddedFaults, PaddedAs};
-use dna::NO_CALL_BASE_LOWER;
+ghost use Rattle.vanilla_caller.specs.Strand.{mark, strandTooLong, strandRagged, outputsTooShort};
 use lists::at_u16;
-use lists::copy_u8;
-use lists::copy_u16;
-use lists::copy_u32;
-use lists::fill_u8;
-use lists::fill_u16;
-use methylation::Annotation;
-use methylation::is_annotated;
 use numbers::max_u16;
 use numbers::min_u16;
-use phred::MIN_PHRED;
-use refusals::BELOW_LENGTH;
 use refusals::MAX_POSITIONS;
-use refusals::OUTPUT_TOO_SHORT;
-use refusals::RAGGED;
 use refusals::TOO_LONG;
 use refusals::refuse_if;
 
 pub enum Depth {
     Refused(u8),
     Of(u16),
-}
-
-pub enum PaddedStrand {
-    Refused(u8),
-    // The strand is written, with this annotation.
-    Written(Annotation),
 }
 
 // How long each array of a strand is.
@@ -98,19 +73,8 @@ pub fn min_depth(depths: &[u16]) -> Depth
     Depth::Of(smallest_depth(depths))
 }
 
-// The annotation of a strand padded from length to new_length.
-fn kept_annotation(annotation: Annotation, length: usize, new_length: usize) -> Annotation
-    ensures { λ r. ⌜ r ≡ kept annotation length «new_length» ⌝ }
-{
-    if length == new_length {
-        annotation
-    } else {
-        Annotation::Absent
-    }
-}
-
-// Row 7's condition.
-fn strand_too_long(annotated: bool, s: Lengths) -> bool
+// Row 7's condition for a strand. Its evidence counts where it is annotated.
+pub fn strand_too_long(annotated: bool, s: Lengths) -> bool
     ensures { λ r. ⌜ r ≡ strandTooLong annotated s ⌝ }
 {
     let four = (MAX_POSITIONS < s.bases)
@@ -120,8 +84,8 @@ fn strand_too_long(annotated: bool, s: Lengths) -> bool
     four | (annotated & evidence)
 }
 
-// Row 8's condition.
-fn strand_ragged(annotated: bool, s: Lengths) -> bool
+// Row 8's condition for a strand.
+pub fn strand_ragged(annotated: bool, s: Lengths) -> bool
     ensures { λ r. ⌜ r ≡ strandRagged annotated s ⌝ }
 {
     let n = s.bases;
@@ -130,8 +94,8 @@ fn strand_ragged(annotated: bool, s: Lengths) -> bool
     four | (annotated & evidence)
 }
 
-// Row 12's condition, where n positions are written, with evidence or without.
-fn outputs_too_short(n: usize, annotated: bool, out: Lengths) -> bool
+// Row 12's condition for outputs to which a strand of n positions goes, with evidence or without.
+pub fn outputs_too_short(n: usize, annotated: bool, out: Lengths) -> bool
     ensures { λ r. ⌜ r ≡ outputsTooShort n annotated out ⌝ }
 {
     let four = (out.bases < n) | ((out.quals < n) | ((out.depths < n) | (out.errors < n)));
@@ -139,256 +103,9 @@ fn outputs_too_short(n: usize, annotated: bool, out: Lengths) -> bool
     four | (annotated & evidence)
 }
 
-fn padded_refusal(annotation: Annotation, strand: Lengths, new_length: usize, out: Lengths) -> u8
-    ensures { λ r. ⌜ r ≡ refusal (paddedFaults annotation strand «new_length» out) ⌝ }
-{
-    let annotated = is_annotated(annotation);
-    let length = strand.bases;
-    let evidence = annotated & (length == new_length);
-    let number = refuse_if(
-        0,
-        (MAX_POSITIONS < new_length) | strand_too_long(annotated, strand),
-        TOO_LONG,
-    );
-    let number = refuse_if(number, strand_ragged(annotated, strand), RAGGED);
-    let number = refuse_if(number, new_length < length, BELOW_LENGTH);
-    refuse_if(
-        number,
-        outputs_too_short(new_length, evidence, out),
-        OUTPUT_TOO_SHORT,
-    )
-}
-
-fn pad_u8(xs: &[u8], new_length: usize, left: bool, value: u8, out: &mut [u8])
-    requires { ⌜ (length (now xs) ≤ «new_length») × («new_length» ≤ length (now out)) ⌝ }
-    ensures { λ _. ⌜ now (out .exit) ≡ put (padTo «new_length» left value (now (xs .entry))) (now (out .entry)) ⌝ }
-{
-    let length = xs.len();
-    let added = new_length - length;
-    if left {
-        fill_u8(value, &mut out[0..added]);
-        copy_u8(xs, &mut out[added..new_length]);
-        return;
-    }
-    copy_u8(xs, &mut out[0..length]);
-    fill_u8(value, &mut out[length..new_length]);
-}
-
-fn pad_u16(xs: &[u16], new_length: usize, left: bool, value: u16, out: &mut [u16])
-    requires { ⌜ (length (now xs) ≤ «new_length») × («new_length» ≤ length (now out)) ⌝ }
-    ensures { λ _. ⌜ now (out .exit) ≡ put (padTo «new_length» left value (now (xs .entry))) (now (out .entry)) ⌝ }
-{
-    let length = xs.len();
-    let added = new_length - length;
-    if left {
-        fill_u16(value, &mut out[0..added]);
-        copy_u16(xs, &mut out[added..new_length]);
-        return;
-    }
-    copy_u16(xs, &mut out[0..length]);
-    fill_u16(value, &mut out[length..new_length]);
-}
-
-fn mark_of(x: u8) -> u8
+// An informative mark as it is written: 0 no, any other byte yes.
+pub fn mark_of(x: u8) -> u8
     ensures { λ r. ⌜ r ≡ mark x ⌝ }
 {
     if x == 0 { 0 } else { 1 }
-}
-
-fn copy_marks(marks: &[u8], places: usize, out: &mut [u8])
-    requires { ⌜ (places ≤ length (now marks)) × (places ≤ length (now out)) ⌝ }
-    ensures { λ _. ⌜ now (out .exit) ≡ put (map mark (take places (now (marks .entry)))) (now (out .entry)) ⌝ }
-{
-    let mut i = 0;
-    while i < places {
-        out[i] = mark_of(marks[i]);
-        i += 1;
-    }
-}
-
-// How many places of evidence are written.
-fn evidence_places(annotation: Annotation, length: usize, new_length: usize) -> usize
-    ensures { λ r. ⌜ r ≡ cond (keeps annotation length «new_length») «new_length» 0 ⌝ }
-{
-    let evidence = is_annotated(annotation) & (length == new_length);
-    if evidence { new_length } else { 0 }
-}
-
-fn write_padded(
-    bases: &[u8],
-    quals: &[u8],
-    depths: &[u16],
-    errors: &[u16],
-    new_length: usize,
-    left: bool,
-    base: u8,
-    qual: u8,
-    bases_out: &mut [u8],
-    quals_out: &mut [u8],
-    depths_out: &mut [u16],
-    errors_out: &mut [u16],
-)
-    requires { ⌜ (length (now bases) ≤ «new_length») × («new_length» ≤ length (now «bases_out»)) ⌝ }
-    requires { ⌜ (length (now quals) ≤ «new_length») × («new_length» ≤ length (now «quals_out»)) ⌝ }
-    requires { ⌜ (length (now depths) ≤ «new_length») × («new_length» ≤ length (now «depths_out»)) ⌝ }
-    requires { ⌜ (length (now errors) ≤ «new_length») × («new_length» ≤ length (now «errors_out»)) ⌝ }
-    ensures { λ _. ⌜ now («bases_out» .exit) ≡ put (padTo «new_length» left base (now (bases .entry))) (now («bases_out» .entry)) ⌝ }
-    ensures { λ _. ⌜ now («quals_out» .exit) ≡ put (padTo «new_length» left qual (now (quals .entry))) (now («quals_out» .entry)) ⌝ }
-    ensures { λ _. ⌜ now («depths_out» .exit) ≡ put (padTo «new_length» left 0 (now (depths .entry))) (now («depths_out» .entry)) ⌝ }
-    ensures { λ _. ⌜ now («errors_out» .exit) ≡ put (padTo «new_length» left 0 (now (errors .entry))) (now («errors_out» .entry)) ⌝ }
-{
-    pad_u8(bases, new_length, left, base, bases_out);
-    pad_u8(quals, new_length, left, qual, quals_out);
-    pad_u16(depths, new_length, left, 0, depths_out);
-    pad_u16(errors, new_length, left, 0, errors_out);
-}
-
-fn write_evidence(
-    marks: &[u8],
-    unconverted: &[u32],
-    converted: &[u32],
-    places: usize,
-    marks_out: &mut [u8],
-    unconverted_out: &mut [u32],
-    converted_out: &mut [u32],
-)
-    requires { ⌜ (places ≤ length (now marks)) × (places ≤ length (now «marks_out»)) ⌝ }
-    requires { ⌜ (places ≤ length (now unconverted)) × (places ≤ length (now «unconverted_out»)) ⌝ }
-    requires { ⌜ (places ≤ length (now converted)) × (places ≤ length (now «converted_out»)) ⌝ }
-    ensures { λ _. ⌜ now («marks_out» .exit) ≡ put (map mark (take places (now (marks .entry)))) (now («marks_out» .entry)) ⌝ }
-    ensures { λ _. ⌜ now («unconverted_out» .exit) ≡ put (take places (now (unconverted .entry))) (now («unconverted_out» .entry)) ⌝ }
-    ensures { λ _. ⌜ now («converted_out» .exit) ≡ put (take places (now (converted .entry))) (now («converted_out» .entry)) ⌝ }
-{
-    copy_marks(marks, places, marks_out);
-    copy_u32(&unconverted[0..places], unconverted_out);
-    copy_u32(&converted[0..places], converted_out);
-}
-
-// Adds positions on the left or the right, up to new_length, with a base, a quality, depth 0 and error 0. The same length
-// copies all, with marks as 0 or 1; a greater drops the annotation and leaves its outputs as they are. Refuses by 7, 8, 11, 12.
-pub fn padded(
-    bases: &[u8],
-    quals: &[u8],
-    depths: &[u16],
-    errors: &[u16],
-    annotation: Annotation,
-    marks: &[u8],
-    unconverted: &[u32],
-    converted: &[u32],
-    new_length: usize,
-    left: bool,
-    base: u8,
-    qual: u8,
-    bases_out: &mut [u8],
-    quals_out: &mut [u8],
-    depths_out: &mut [u16],
-    errors_out: &mut [u16],
-    marks_out: &mut [u8],
-    unconverted_out: &mut [u32],
-    converted_out: &mut [u32],
-) -> PaddedStrand
-    ensures { λ r. ⌜ PaddedAs annotation
-        (arrays (now (bases .entry)) (now (quals .entry)) (now (depths .entry)) (now (errors .entry)) (now (marks .entry)) (now (unconverted .entry)) (now (converted .entry)))
-        (padding «new_length» left base qual)
-        (arrays (now («bases_out» .entry)) (now («quals_out» .entry)) (now («depths_out» .entry)) (now («errors_out» .entry)) (now («marks_out» .entry)) (now («unconverted_out» .entry)) (now («converted_out» .entry)))
-        (arrays (now («bases_out» .exit)) (now («quals_out» .exit)) (now («depths_out» .exit)) (now («errors_out» .exit)) (now («marks_out» .exit)) (now («unconverted_out» .exit)) (now («converted_out» .exit)))
-        r ⌝ }
-{
-    let strand = Lengths {
-        bases: bases.len(),
-        quals: quals.len(),
-        depths: depths.len(),
-        errors: errors.len(),
-        marks: marks.len(),
-        unconverted: unconverted.len(),
-        converted: converted.len(),
-    };
-    let out = Lengths {
-        bases: bases_out.len(),
-        quals: quals_out.len(),
-        depths: depths_out.len(),
-        errors: errors_out.len(),
-        marks: marks_out.len(),
-        unconverted: unconverted_out.len(),
-        converted: converted_out.len(),
-    };
-    let number = padded_refusal(annotation, strand, new_length, out);
-    if number != 0 {
-        return PaddedStrand::Refused(number);
-    }
-    write_padded(
-        bases,
-        quals,
-        depths,
-        errors,
-        new_length,
-        left,
-        base,
-        qual,
-        bases_out,
-        quals_out,
-        depths_out,
-        errors_out,
-    );
-    let places = evidence_places(annotation, bases.len(), new_length);
-    write_evidence(
-        marks,
-        unconverted,
-        converted,
-        places,
-        marks_out,
-        unconverted_out,
-        converted_out,
-    );
-    PaddedStrand::Written(kept_annotation(annotation, bases.len(), new_length))
-}
-
-// padded with the base n and the quality 2.
-pub fn padded_default(
-    bases: &[u8],
-    quals: &[u8],
-    depths: &[u16],
-    errors: &[u16],
-    annotation: Annotation,
-    marks: &[u8],
-    unconverted: &[u32],
-    converted: &[u32],
-    new_length: usize,
-    left: bool,
-    bases_out: &mut [u8],
-    quals_out: &mut [u8],
-    depths_out: &mut [u16],
-    errors_out: &mut [u16],
-    marks_out: &mut [u8],
-    unconverted_out: &mut [u32],
-    converted_out: &mut [u32],
-) -> PaddedStrand
-    ensures { λ r. ⌜ PaddedAs annotation
-        (arrays (now (bases .entry)) (now (quals .entry)) (now (depths .entry)) (now (errors .entry)) (now (marks .entry)) (now (unconverted .entry)) (now (converted .entry)))
-        (defaultPadding «new_length» left)
-        (arrays (now («bases_out» .entry)) (now («quals_out» .entry)) (now («depths_out» .entry)) (now («errors_out» .entry)) (now («marks_out» .entry)) (now («unconverted_out» .entry)) (now («converted_out» .entry)))
-        (arrays (now («bases_out» .exit)) (now («quals_out» .exit)) (now («depths_out» .exit)) (now («errors_out» .exit)) (now («marks_out» .exit)) (now («unconverted_out» .exit)) (now («converted_out» .exit)))
-        r ⌝ }
-{
-    padded(
-        bases,
-        quals,
-        depths,
-        errors,
-        annotation,
-        marks,
-        unconverted,
-        converted,
-        new_length,
-        left,
-        NO_CALL_BASE_LOWER,
-        MIN_PHRED,
-        bases_out,
-        quals_out,
-        depths_out,
-        errors_out,
-        marks_out,
-        unconverted_out,
-        converted_out,
-    )
 }

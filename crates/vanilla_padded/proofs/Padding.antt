@@ -1,0 +1,71 @@
+-- Laws of padding, for any element type.
+--     padTo-length     a padded array has the new length
+--     padTo-same       to the same length it is a copy
+--     padded-left, padded-right     what a fill and a copy, each of a part of the output, write
+--     copied-part      a copy of so many places
+--     all-or-none      so many places copied, all or none of them
+-- Assumes nothing.
+use mathlib.Core.Path.{_≡_, refl, sym, ap, _∙_}
+use mathlib.Core.Bool.{Bool, true, false, cond}
+use mathlib.Core.List.{List, [], _∷_, _++_, append-nil}
+use Prim.Native.Nat.{ℕ, zero, suc, _+_, _-_, _≤_, _<_}
+use native.Mathlib.Nat.{sub-zero, sub-self}
+use native.Mathlib.Omega.{arith}
+use lib.ListN.{length, take, replicate, length-append, length-replicate, length-take}
+use lib.Seq.{take-all}
+use borrow.Rule.Slice.PartMut.{putMid, midOf}
+use Rattle.lists.specs.Output.{put}
+use Rattle.lists.proofs.Output.{put-fitting, copy-next, fill-next}
+use Rattle.vanilla_padded.specs.Padding.{padTo, onlyIf}
+
+module _ {A : Type 0} (v : A) (xs : List A) where
+  pub padTo-length : (n : ℕ) (left : Bool) → length xs ≤ n → length (padTo n left v xs) ≡ n
+  unfolding padTo
+  padTo-length n true h = simp (length-append, length-replicate) (omega arith)
+  padTo-length n false h = simp (length-append, length-replicate) (omega arith)
+
+  -- Padding to the same length copies all.
+  pub padTo-same : (left : Bool) → padTo (length xs) left v xs ≡ xs
+  unfolding padTo
+  padTo-same true = rw sub-self
+  padTo-same false = rw (sub-self, append-nil)
+
+module _ {A : Type 0} (v : A) (xs out : List A) (n : ℕ) (fits : length xs ≤ n) (room : n ≤ length out) where
+  abbrev added : ℕ
+  added = n - length xs
+
+  nothing : out ≡ put [] out
+  unfolding put
+  nothing = refl
+
+  -- On the left the padding is filled in first, and then the array copied behind it. L is the output in between.
+  pub padded-left :
+      {Y Z : List A}
+      → Y ≡ replicate (length (midOf 0 (added - 0) out)) v
+      → (let L = putMid 0 (added - 0) out Y in Z ≡ put (take (length (midOf added (n - added) L)) xs) (midOf added (n - added) L))
+      → putMid added (n - added) (putMid 0 (added - 0) out Y) Z ≡ put (padTo n true v xs) out
+  unfolding padTo
+  padded-left y z =
+      let filled = fill-next [] out (added - 0) nothing refl (omega arith) v y in
+      let size : added ≡ length (replicate (added - 0) v) = omega (arith, length-replicate (added - 0) v) in
+      copy-next (replicate (added - 0) v) out (n - added) filled size (omega arith) xs (omega arith) z
+      ∙ rw (sub-zero added)
+
+  -- On the right the array is copied first.
+  pub padded-right :
+      {Y Z : List A}
+      → Y ≡ put (take (length (midOf 0 (length xs - 0) out)) xs) (midOf 0 (length xs - 0) out)
+      → (let L = putMid 0 (length xs - 0) out Y in Z ≡ replicate (length (midOf (length xs) added L)) v)
+      → putMid (length xs) added (putMid 0 (length xs - 0) out Y) Z ≡ put (padTo n false v xs) out
+  unfolding padTo
+  padded-right y z = fill-next xs out added (copy-next [] out (length xs - 0) nothing refl (omega arith) xs (omega arith) y) refl (omega arith) v z
+
+-- A copy of the first n places of xs, as the part 0..n, to an output that has room for them.
+pub copied-part : {A : Type 0} (xs out : List A) (n : ℕ) → n ≤ length out → put (take (length out) (take (n - 0) xs)) out ≡ put (take n xs) out
+copied-part xs out n h = rw (sub-zero n) (put-fitting (take n xs) out (omega (arith, length-take n xs)))
+
+-- So many places of xs are all of it or nothing: n where b holds and xs has no more, else none.
+pub all-or-none : {A : Type 0} (b : Bool) (n : ℕ) (xs : List A) {places : ℕ} → places ≡ cond b n 0 → (b ≡ true → length xs ≤ n) → take places xs ≡ onlyIf b xs
+unfolding onlyIf
+all-or-none true n xs e h = rw e (take-all n xs (h refl))
+all-or-none false n xs e h = rw e

@@ -1,0 +1,74 @@
+-- `vanilla_padded::padded` meets its contract: refused by its number, or each output written, where it has room. Assumes nothing.
+use mathlib.Core.Path.{ap, _∙_}
+use mathlib.Core.List.{map}
+use borrow.Author.Needs.{needs}
+use Rattle.lists.proofs.Output.{answer-refused, answer-passed, put-equal}
+use Rattle.vanilla_caller.specs.Strand.{mark}
+use Rattle.vanilla_padded.specs.declared.PaddedStrand.the-variants.{Refused, Written}
+use Rattle.vanilla_padded.proofs.Padding.{all-or-none}
+use Rattle.vanilla_padded.proofs.Room.{room}
+use Rattle.vanilla_caller.proofs.Strand.{leaves-refused, leaves-passed}
+use Rattle.vanilla_padded.proofs.padded.Statement.{statement}
+use Rattle.vanilla_padded.proofs.padded.Tie as tie
+
+returns : tie.Need-returns
+returns c =
+    let number = c .before .padded-refusal .ensures in
+    record { answered = answer-refused Refused _ number (c .if1 .taken); outputs = leaves-refused number (c .if1 .taken) }
+
+write-padded-requires : tie.Need-write-padded-requires
+write-padded-requires c κs =
+    let at-test = c .before .before .before .before in
+    let r = room _ _ _ _ (at-test .before .padded-refusal .ensures) (at-test .if1 .left) in
+    (r .bases, (r .quals, (r .depths, r .errors)))
+
+-- The test of the number, seen from where the first four outputs are written.
+abbrev tested : tie.After-evidence-places → tie.Else1
+tested c = c .before .before .before .before .before .before .before .before .before .before .before .before .before .before
+
+write-evidence-requires : tie.Need-write-evidence-requires
+write-evidence-requires c κs =
+    let written = c .before .before .before in
+    let r = room _ _ _ _ (tested written .before .padded-refusal .ensures) (tested written .if1 .left) in
+    rw (written .evidence-places .ensures) (r .marks, (r .unconverted, r .converted))
+
+returns-2 : tie.Need-returns-2
+returns-2 c =
+    let evidence = c .before .before .before .before .before .before .before in
+    let counted = evidence .before .before .before .before in
+    let arrays = counted .before .before .before .before .before .before .before .before .before in
+    let number = tested counted .before .padded-refusal .ensures in
+    let passed = tested counted .if1 .left in
+    let r = room _ _ _ _ number passed in
+    let places = counted .evidence-places .ensures in
+    record {
+      answered = ap Written (c .kept-annotation .ensures) ∙ answer-passed Refused _ number passed;
+      outputs = leaves-passed number passed (record {
+        bases = arrays .write-padded .ensures .0;
+        quals = arrays .write-padded .ensures .1 .0;
+        depths = arrays .write-padded .ensures .1 .1 .0;
+        errors = arrays .write-padded .ensures .1 .1 .1;
+        marks = evidence .write-evidence .ensures .0 ∙ put-equal _ (ap (map mark) (all-or-none _ _ _ places (λ k. r .whole k .0)));
+        unconverted = evidence .write-evidence .ensures .1 .0 ∙ put-equal _ (all-or-none _ _ _ places (λ k. r .whole k .1));
+        converted = evidence .write-evidence .ensures .1 .1 ∙ put-equal _ (all-or-none _ _ _ places (λ k. r .whole k .2));
+      });
+    }
+
+pub padded-spec : {M : Type 1} → statement M
+padded-spec =
+    tie.close
+    (tie.spec
+    (λ c κs. tt)
+    returns
+    write-padded-requires
+    (λ c κs. tt)
+    write-evidence-requires
+    (λ c κs. tt)
+    (λ c. search needs)
+    (λ c. search needs)
+    (λ c. search needs)
+    (λ c. search needs)
+    (λ c. search needs)
+    (λ c. search needs)
+    (λ c. search needs)
+    returns-2)
