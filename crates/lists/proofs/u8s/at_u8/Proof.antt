@@ -1,6 +1,6 @@
 -- `lists::u8s::at_u8` meets its contract: within the list by `getD-within`, past its end by `getD`'s own law. Assumes nothing.
 use mathlib.Core.Path.{sym}
-use borrow.Author.Needs.{needs}
+use native.Mathlib.Omega.{arith}
 use denote.Ref.{now}
 use lib.ListN.{List·getD-eq-default}
 use Rattle.lists.proofs.Place.{getD-within}
@@ -8,7 +8,7 @@ use Rattle.lists.proofs.u8s.at_u8.Statement.{statement}
 use Rattle.lists.proofs.u8s.at_u8.Tie as tie
 
 shared-slice-read-result : tie.Need-shared-slice-read-result
-shared-slice-read-result c = search needs
+shared-slice-read-result c = omega arith
 
 returns : tie.Need-returns
 returns c =
