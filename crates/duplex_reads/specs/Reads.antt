@@ -3,6 +3,7 @@ use Prim.Native.Nat.{ℕ, _+_}
 use mathlib.Core.Bool.{Bool, true, cond, _&&_, Bool·beq}
 use mathlib.Core.List.{List, [], _∷_, _++_, foldl}
 use lib.ListN.{length, getD}
+use Rattle.lists.specs.Count.{countOf}
 use Rattle.lists.specs.Output.{answer}
 use Rattle.refusals.specs.Refusal.{Fault, _if_, tooMany, refusal}
 use Rattle.flags.specs.Flags.{paired, unmapped, mateUnmapped, reverse, firstSegment, lastSegment, isSet}
@@ -30,11 +31,8 @@ writtenFlags R1 = paired + unmapped + mateUnmapped + firstSegment
 writtenFlags R2 = paired + unmapped + mateUnmapped + lastSegment
 
 -- The number of paired first reads.
-unfoldable pub countOne : ℕ → ℕ → ℕ
-countOne soFar flags = cond (isPairedR1 flags) (soFar + 1) soFar
-
-unfoldable pub countR1 : List ℕ → ℕ
-countR1 reads = foldl countOne 0 reads
+abbrev pub countR1 : List ℕ → ℕ
+countR1 reads = countOf isPairedR1 reads
 
 -- Thresholds, and the numbers of reads of the two strands.
 unfoldable pub gateFaults : List ℕ → ℕ → ℕ → List Fault

@@ -3,7 +3,8 @@
 ghost use mathlib.Core.Path.{_≡_};
 ghost use Prim.Native.Nat.{_≤_};
 ghost use lib.ListN.{length};
-ghost use Rattle.duplex_reads.specs.Reads.{isPaired, isPairedR1, isPairedR2, writtenFlags, countOne, countR1, allReverseAs, readGate, sameStrand};
+ghost use Rattle.lists.specs.Count.{countIf};
+ghost use Rattle.duplex_reads.specs.Reads.{isPaired, isPairedR1, isPairedR2, writtenFlags, countR1, allReverseAs, readGate, sameStrand};
 use duplex_min_reads::Validated;
 use duplex_min_reads::reaches;
 use duplex_min_reads::validate_min_reads;
@@ -77,7 +78,7 @@ pub fn is_paired_r2(flags: u16) -> bool
 // The number after one more read.
 fn count_one(so_far: u32, flags: u16) -> u32
     requires { ⌜ «so_far» ≤ 1024 ⌝ }
-    ensures { λ r. ⌜ r ≡ countOne «so_far» flags ⌝ }
+    ensures { λ r. ⌜ r ≡ countIf isPairedR1 «so_far» flags ⌝ }
 {
     if is_paired_r1(flags) {
         so_far + 1

@@ -1,6 +1,7 @@
+pub mod Fold
+pub mod Count
 pub mod Indices
 pub mod Output
 pub mod Part
-pub mod Table
 pub mod Place
-pub mod Fold
+pub mod Table

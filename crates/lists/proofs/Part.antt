@@ -2,16 +2,18 @@
 --     leaves-by-rest     what the code tests: the buffer's rest from the offset on is too short
 --     stays              a part that does not leave its buffer ends within it
 --     part-outside, part-within     its elements
+--     all-or-none        so many places of a list, all or none of them
 -- Assumes nothing.
 use mathlib.Core.Path.{_≡_, refl, sym}
-use mathlib.Core.Bool.{Bool, true, false}
+use mathlib.Core.Bool.{Bool, true, false, cond}
 use mathlib.Core.List.{List, []}
 use Prim.Native.Nat.{ℕ, _+_, _-_, _≤_}
 use native.Mathlib.Omega.{arith}
 use borrow.Author.Tests.{ltb-true, ltb-false, lt-ltb, le-ltb}
 use lib.Dec.{ltb}
 use lib.ListN.{length, take, drop}
-use Rattle.lists.specs.Part.{leaves, part}
+use lib.Seq.{take-all}
+use Rattle.lists.specs.Part.{leaves, part, onlyIf}
 
 pub leaves-by-rest : (offset count size : ℕ) → offset ≤ size → ltb (size - offset) count ≡ leaves offset count size
 unfolding leaves
@@ -35,3 +37,9 @@ module _ {A : Type 0} (offset count : ℕ) (xs : List A) where
   part-within e =
       let whole : offset + count - offset ≡ count = omega arith in
       rw (e, whole)
+
+-- So many places of xs are all of it or nothing: n where b holds and xs has no more, else none.
+pub all-or-none : {A : Type 0} (b : Bool) (n : ℕ) (xs : List A) {places : ℕ} → places ≡ cond b n 0 → (b ≡ true → length xs ≤ n) → take places xs ≡ onlyIf b xs
+unfolding onlyIf
+all-or-none true n xs e h = rw e (take-all n xs (h refl))
+all-or-none false n xs e h = rw e

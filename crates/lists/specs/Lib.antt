@@ -1,3 +1,4 @@
+pub mod Count
 pub mod Indices
 pub mod Output
 pub mod Part

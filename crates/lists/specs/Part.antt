@@ -1,4 +1,4 @@
--- A part of a buffer, given by its offset and how many elements it has.
+-- A part of a buffer, given by its offset and how many elements it has; and all of a list or none.
 use Prim.Native.Nat.{ℕ, _+_}
 use mathlib.Core.Bool.{Bool, cond}
 use mathlib.Core.List.{List, []}
@@ -13,3 +13,7 @@ module _ {A : Type 0} where
   -- Its elements. A part that leaves its buffer has none.
   unfoldable pub part : ℕ → ℕ → List A → List A
   part offset count xs = cond (leaves offset count (length xs)) [] (take count (drop offset xs))
+
+  -- All of a list, or none of it.
+  unfoldable pub onlyIf : Bool → List A → List A
+  onlyIf b xs = cond b xs []

@@ -1,4 +1,4 @@
--- Numbers held to a limit, and the extremes of a list.
+-- Numbers held to a limit, and the extremes and the sum of a list.
 use Prim.Native.Nat.{ℕ, _+_, _-_, _^_, min, max}
 use mathlib.Core.List.{List, foldl}
 use lib.ListN.{getD}
@@ -7,9 +7,12 @@ use lib.ListN.{getD}
 unfoldable pub saturatingAdd : ℕ → ℕ → ℕ → ℕ
 saturatingAdd digits a b = min (a + b) (2 ^ digits - 1)
 
--- The largest and the smallest of some numbers; 0 of none.
+-- The largest, the smallest and the sum of some numbers; each 0 of none.
 abbrev pub largest : List ℕ → ℕ
 largest ns = foldl max 0 ns
 
 abbrev pub smallest : List ℕ → ℕ
 smallest ns = foldl min (getD ns 0 0) ns
+
+abbrev pub total : List ℕ → ℕ
+total ns = foldl _+_ 0 ns

@@ -3,7 +3,6 @@
 --     padTo-same       to the same length it is a copy
 --     padded-left, padded-right     what a fill and a copy, each of a part of the output, write
 --     copied-part      a copy of so many places
---     all-or-none      so many places copied, all or none of them
 -- Assumes nothing.
 use mathlib.Core.Path.{_≡_, refl, sym, ap, _∙_}
 use mathlib.Core.Bool.{Bool, true, false, cond}
@@ -16,7 +15,7 @@ use lib.Seq.{take-all}
 use borrow.Rule.Slice.PartMut.{putMid, midOf}
 use Rattle.lists.specs.Output.{put}
 use Rattle.lists.proofs.Output.{put-fitting, copy-next, fill-next}
-use Rattle.vanilla_padded.specs.Padding.{padTo, onlyIf}
+use Rattle.vanilla_padded.specs.Padding.{padTo}
 
 module _ {A : Type 0} (v : A) (xs : List A) where
   pub padTo-length : (n : ℕ) (left : Bool) → length xs ≤ n → length (padTo n left v xs) ≡ n
@@ -63,9 +62,3 @@ module _ {A : Type 0} (v : A) (xs out : List A) (n : ℕ) (fits : length xs ≤ 
 -- A copy of the first n places of xs, as the part 0..n, to an output that has room for them.
 pub copied-part : {A : Type 0} (xs out : List A) (n : ℕ) → n ≤ length out → put (take (length out) (take (n - 0) xs)) out ≡ put (take n xs) out
 copied-part xs out n h = rw (sub-zero n) (put-fitting (take n xs) out (omega (arith, length-take n xs)))
-
--- So many places of xs are all of it or nothing: n where b holds and xs has no more, else none.
-pub all-or-none : {A : Type 0} (b : Bool) (n : ℕ) (xs : List A) {places : ℕ} → places ≡ cond b n 0 → (b ≡ true → length xs ≤ n) → take places xs ≡ onlyIf b xs
-unfolding onlyIf
-all-or-none true n xs e h = rw e (take-all n xs (h refl))
-all-or-none false n xs e h = rw e

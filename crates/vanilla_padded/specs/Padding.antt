@@ -7,6 +7,7 @@ use mathlib.Core.List.{List, [], _∷_, _++_, map}
 use lib.Dec.{eqb, ltb}
 use lib.ListN.{length, getD, replicate}
 use Rattle.lists.specs.Output.{answer}
+use Rattle.lists.specs.Part.{onlyIf}
 use Rattle.refusals.specs.Refusal.{Fault, _if_, tooLong, refusal}
 use Rattle.dna.specs.Dna.{lowerN}
 use Rattle.phred.specs.Phred.{minPhred}
@@ -35,10 +36,6 @@ module _ {A : Type 0} where
   -- xs with copies of v added, left or right, up to n positions.
   unfoldable pub padTo : ℕ → Bool → A → List A → List A
   padTo n left v xs = cond left (replicate (n - length xs) v ++ xs) (xs ++ replicate (n - length xs) v)
-
-  -- All of xs or nothing.
-  unfoldable pub onlyIf : Bool → List A → List A
-  onlyIf b xs = cond b xs []
 
 -- The annotation of a strand of some length after padding.
 abbrev pub kept : Annotation → ℕ → ℕ → Annotation

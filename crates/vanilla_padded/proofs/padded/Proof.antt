@@ -5,7 +5,7 @@ use borrow.Author.Needs.{needs}
 use Rattle.lists.proofs.Output.{answer-refused, answer-passed, put-equal}
 use Rattle.vanilla_caller.specs.Strand.{mark}
 use Rattle.vanilla_padded.specs.declared.PaddedStrand.the-variants.{Refused, Written}
-use Rattle.vanilla_padded.proofs.Padding.{all-or-none}
+use Rattle.lists.proofs.Part.{all-or-none}
 use Rattle.vanilla_padded.proofs.Room.{room}
 use Rattle.vanilla_caller.proofs.Strand.{leaves-refused, leaves-passed}
 use Rattle.vanilla_padded.proofs.padded.Statement.{statement}

@@ -1,0 +1,52 @@
+-- Where the metrics are not refused, no array that is looked at has over 1,024 elements.
+--     few                     what passing means
+--     part-few, looked-at     of an array of the second strand
+-- Assumes nothing.
+use mathlib.Core.Path.{_≡_, refl}
+use mathlib.Core.Bool.{Bool, true, false, cond}
+use mathlib.Core.List.{List, [], _∷_}
+use Prim.Native.Nat.{ℕ, _-_, _≤_}
+use native.Mathlib.Nat.{sub-zero}
+use native.Mathlib.Omega.{arith}
+use lib.ListN.{length, take, length-take}
+use Rattle.lists.specs.Part.{onlyIf}
+use Rattle.lists.proofs.Part.{all-or-none}
+use Rattle.refusals.specs.Refusal.{tooLong, refusal}
+use Rattle.refusals.proofs.Refusal.{passed}
+use Rattle.refusals.proofs.Condition.{nor-where, not-too-long}
+use Rattle.duplex_metrics.specs.Metrics.{metricsFaults}
+use Rattle.duplex_metrics.specs.declared.MetricsLengths.{MetricsLengths}
+
+pub record Few (n : MetricsLengths) : Type 0 where
+  pub a : n .a ≤ 1024
+  pub a-errors : n .aErrors ≤ 1024
+  pub bases : n .bases ≤ 1024
+  pub errors : n .errors ≤ 1024
+  pub b : n .second ≡ true → (n .b ≤ 1024) × (n .bErrors ≤ 1024)
+
+pub few : (n : MetricsLengths) {number : ℕ} → number ≡ refusal (metricsFaults n) → number ≡ 0 → Few n
+unfolding metricsFaults
+few n e z =
+    let first = n .a ∷ n .aErrors ∷ n .bases ∷ n .errors ∷ [] in
+    let second = n .b ∷ n .bErrors ∷ [] in
+    let (short, short-second) = nor-where (tooLong first) (n .second) (tooLong second) (passed 7 (metricsFaults n) tt tt e z .0) in
+    let each = not-too-long first short in
+    record {
+      a = each .0;
+      a-errors = each .1 .0;
+      bases = each .1 .1 .0;
+      errors = each .1 .1 .1 .0;
+      b = λ h. let both = not-too-long second (short-second h) in (both .0, both .1 .0);
+    }
+
+-- The part of an array of the second strand that is looked at, r elements of it: all or none.
+module _ (second : Bool) (xs : List ℕ) {r : ℕ} (e : r ≡ cond second (length xs) 0) where
+  pub part-few : (second ≡ true → length xs ≤ 1024) → length (take (r - 0) xs) ≤ 1024
+  part-few h = omega (arith, length-take (r - 0) xs, go second e h)
+    where
+      go : (b : Bool) → r ≡ cond b (length xs) 0 → (b ≡ true → length xs ≤ 1024) → r ≤ 1024
+      go true e h = omega (arith, h refl)
+      go false e h = omega arith
+
+  pub looked-at : take (r - 0) xs ≡ onlyIf second xs
+  looked-at = rw (sub-zero r) (all-or-none second (length xs) xs e (λ h. omega arith))
