@@ -1,1 +1,2 @@
+pub mod HonestRates
 pub mod Metrics
