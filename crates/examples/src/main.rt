@@ -1,6 +1,7 @@
 // Document 01's examples of the calls, one line each: what is asked, and what is answered or left in the outputs. The file stdout
 // has what must be printed.
 use caller::ReadName;
+use duplex_metrics::Metrics;
 use duplex_min_reads::SingleStrand;
 use duplex_min_reads::Validated;
 use duplex_molecule::MoleculeCall;
@@ -274,6 +275,54 @@ fn errors() {
     end_line();
 }
 
+fn rate(errors: u32, depth: u32) {
+    text(b"rate of");
+    number(errors as u64);
+    number(depth as u64);
+    text(b": ");
+    io::print_hex(STDOUT, rates::rate_bits(errors, depth) as u64, 8);
+    end_line();
+}
+
+// The integers of the metrics of ACNN with A's depths 2 and B's 1, and errors 0, 0, 1, 1.
+fn metrics(second: bool, errors: &[u16]) {
+    text(b"metrics:");
+    match duplex_metrics::duplex_metrics(
+        &[2, 2, 2, 2],
+        &[0, 0, 0, 0],
+        second,
+        &[1, 1, 1, 1],
+        &[0, 0, 0, 0],
+        b"ACNN",
+        errors,
+    ) {
+        Metrics::Refused(n) => refused(n),
+        Metrics::Of(m) => {
+            number(m.aD as u64);
+            number(m.aM as u64);
+            number(m.bD as u64);
+            number(m.bM as u64);
+            number(m.cD as u64);
+            number(m.cM as u64);
+            number(m.nc as u64);
+        }
+    }
+    end_line();
+}
+
+fn all_rates() {
+    rate(2, 12);
+    rate(0, 12);
+    rate(2, 0);
+    rate(2895, 2894);
+    rate(2896, 2895);
+    rate(2948, 2947);
+    rate(2949, 2948);
+    metrics(true, &[0, 0, 1, 1]);
+    metrics(false, &[0, 0, 1, 1]);
+    metrics(true, &[0, 0, 1]);
+}
+
 fn all_thresholds() {
     thresholds(&[3, 1]);
     thresholds(&[1, 2]);
@@ -334,4 +383,5 @@ fn main() {
     all_paddings();
     qualities();
     errors();
+    all_rates();
 }
