@@ -1,13 +1,21 @@
-// What every consensus caller shares, from caller.rs: the clamps of depths and errors to fgbio's Short, and the read name.
-// Uses lists and refusals.
+// What every consensus caller shares, from caller.rs: the clamps of depths and errors to fgbio's Short, the read name, and the
+// error rate of a strand. Uses lists, refusals, numbers and rates.
 ghost use mathlib.Core.Path.{_≡_};
 ghost use Prim.Native.Nat.{_≤_, _+_};
 ghost use lib.ListN.{length};
 ghost use Rattle.lists.specs.Output.{put, answer, after};
+ghost use Rattle.numbers.specs.Numbers.{total};
+ghost use Rattle.refusals.specs.Refusal.{refusal};
 ghost use Rattle.caller.specs.Short.{short, shortOf};
 ghost use Rattle.caller.specs.Name.{readName, nameTooShort, nameRefused};
+ghost use Rattle.caller.specs.Rate.{rateFaults, errorRate};
+use lists::at_u16;
 use lists::copy_u8;
+use rates::error_rate;
+use refusals::MAX_POSITIONS;
 use refusals::OUTPUT_TOO_SHORT;
+use refusals::RAGGED;
+use refusals::TOO_LONG;
 use refusals::refuse_if;
 
 // The largest Short, fgbio's ceiling of a depth or an error count at a position.
@@ -17,6 +25,11 @@ pub enum ReadName {
     Refused(u8),
     // The name has so many bytes.
     Written(usize),
+}
+
+pub enum ErrorRate {
+    Refused(u8),
+    Rate(f32),
 }
 
 // A depth, or a strand's errors, at one position, held to the ceiling before it goes into any sum or extreme.
@@ -79,4 +92,42 @@ pub fn write_consensus_read_name(out: &mut [u8], read_name_prefix: &[u8], umi: &
     }
     write_name(out, read_name_prefix, umi);
     ReadName::Written(read_name_prefix.len() + 1 + umi.len())
+}
+
+// The number that refuses a strand's depths and errors of these lengths, 0 for none.
+pub fn rate_refusal(depths: usize, errors: usize) -> u8
+    ensures { λ r. ⌜ r ≡ refusal (rateFaults depths errors) ⌝ }
+{
+    let number = refuse_if(
+        0,
+        (MAX_POSITIONS < depths) | (MAX_POSITIONS < errors),
+        TOO_LONG,
+    );
+    refuse_if(number, errors != depths, RAGGED)
+}
+
+fn total_of(xs: &[u16]) -> u32
+    requires { ⌜ length (now xs) ≤ 1024 ⌝ }
+    ensures { λ r. ⌜ r ≡ total (now (xs .entry)) ⌝ }
+{
+    let mut sum = 0;
+    let mut i = 0;
+    while i < xs.len() {
+        sum += at_u16(xs, i, 0) as u32;
+        i += 1;
+    }
+    sum
+}
+
+// All errors of a strand over all its depths, none of them held; 0 where the depths sum to 0. Refuses by 7, 8.
+pub fn calculate_error_rate(depths: &[u16], errors: &[u16]) -> ErrorRate
+    ensures { λ r. ⌜ r ≡ errorRate (now (depths .entry)) (now (errors .entry)) ⌝ }
+{
+    let number = rate_refusal(depths.len(), errors.len());
+    if number != 0 {
+        return ErrorRate::Refused(number);
+    }
+    let all_errors = total_of(errors);
+    let all_depths = total_of(depths);
+    ErrorRate::Rate(error_rate(all_errors, all_depths))
 }

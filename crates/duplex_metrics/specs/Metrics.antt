@@ -13,6 +13,7 @@ use Rattle.numbers.specs.Numbers.{largest, smallest, total}
 use Rattle.dna.specs.Dna.{letterN}
 use lib.Ieee.{Float}
 use Rattle.rates.specs.Rate.{rateOf}
+use Rattle.caller.specs.Rate.{rateFaults}
 use Rattle.caller.specs.Short.{short}
 use Rattle.duplex_metrics.specs.declared.Figures.{Figures}
 use Rattle.duplex_metrics.specs.declared.Metrics.{Metrics}
@@ -119,8 +120,5 @@ unfoldable pub metricsOf : Input → Metrics
 metricsOf x = answer Refused (metricsRefused x) (Of (metricsRecord (figuresA x) (figuresB x) (figuresC x) (noCalls (x .bases))))
 
 -- The metrics of one strand.
-unfoldable pub strandFaults : ℕ → ℕ → List Fault
-strandFaults d e = (7 if tooLong (d ∷ e ∷ [])) ∷ (8 if ragged (d ∷ e ∷ [])) ∷ []
-
 unfoldable pub strandMetrics : List ℕ → List ℕ → StrandMetrics
-strandMetrics depths errors = answer Refused-strand (refusal (strandFaults (length depths) (length errors))) (Of-strand (strandFigures depths errors))
+strandMetrics depths errors = answer Refused-strand (refusal (rateFaults (length depths) (length errors))) (Of-strand (strandFigures depths errors))

@@ -8,8 +8,9 @@ ghost use Rattle.caller.specs.Short.{short};
 ghost use Rattle.lists.specs.Count.{countIf};
 ghost use Rattle.refusals.specs.Refusal.{refusal};
 ghost use Rattle.numbers.specs.Numbers.{largest, smallest, total};
-ghost use Rattle.duplex_metrics.specs.Metrics.{capped, figures, strandFigures, recordDepth, recordDepths, isN, noCalls, metricsRecord, input, metricsFaults, metricsOf, strandFaults, strandMetrics};
+ghost use Rattle.duplex_metrics.specs.Metrics.{capped, figures, strandFigures, recordDepth, recordDepths, isN, noCalls, metricsRecord, input, metricsFaults, metricsOf, strandMetrics};
 use caller::clamp_per_base_to_fgbio_short;
+use caller::rate_refusal;
 use dna::NO_CALL_BASE;
 use lists::at_u16;
 use numbers::max_u32;
@@ -144,22 +145,11 @@ fn strand_figures(depths: &[u16], errors: &[u16]) -> Figures
     figures_of(depths.len(), depths, &depths[0..0], errors)
 }
 
-fn strand_refusal(depths: usize, errors: usize) -> u8
-    ensures { λ r. ⌜ r ≡ refusal (strandFaults depths errors) ⌝ }
-{
-    let number = refuse_if(
-        0,
-        (MAX_POSITIONS < depths) | (MAX_POSITIONS < errors),
-        TOO_LONG,
-    );
-    refuse_if(number, errors != depths, RAGGED)
-}
-
 // The metrics of one strand. Refuses by 7, 8.
 pub fn strand_metrics(depths: &[u16], errors: &[u16]) -> StrandMetrics
     ensures { λ r. ⌜ r ≡ strandMetrics (now (depths .entry)) (now (errors .entry)) ⌝ }
 {
-    let number = strand_refusal(depths.len(), errors.len());
+    let number = rate_refusal(depths.len(), errors.len());
     if number != 0 {
         return StrandMetrics::Refused(number);
     }

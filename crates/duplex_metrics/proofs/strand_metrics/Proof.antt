@@ -6,25 +6,26 @@ use denote.Ref.{now}
 use Rattle.lists.proofs.Output.{answer-refused, answer-passed}
 use Rattle.refusals.proofs.Condition.{not-too-long}
 use Rattle.refusals.proofs.Refusal.{passed}
-use Rattle.duplex_metrics.specs.Metrics.{strandFaults, strandMetrics}
+use Rattle.caller.specs.Rate.{rateFaults}
+use Rattle.duplex_metrics.specs.Metrics.{strandMetrics}
 use Rattle.duplex_metrics.specs.declared.StrandMetrics.the-variants.{Refused, Of}
 use Rattle.duplex_metrics.proofs.strand_metrics.Statement.{statement}
 use Rattle.duplex_metrics.proofs.strand_metrics.Tie as tie
 
 returns : tie.Need-returns
 unfolding strandMetrics
-returns c = answer-refused Refused _ (c .before .strand-refusal .ensures) (c .if1 .taken)
+returns c = answer-refused Refused _ (c .before .rate-refusal .ensures) (c .if1 .taken)
 
 strand-figures-requires : tie.Need-strand-figures-requires
-unfolding strandFaults
+unfolding rateFaults
 strand-figures-requires c κs =
     let a = c .before .before .before .before .args in
-    let short = not-too-long (length (now (a .depths)) ∷ length (now (a .errors)) ∷ []) (passed 7 _ tt tt (c .before .strand-refusal .ensures) (c .if1 .left) .0) in
+    let short = not-too-long (length (now (a .depths)) ∷ length (now (a .errors)) ∷ []) (passed 7 _ tt tt (c .before .rate-refusal .ensures) (c .if1 .left) .0) in
     (short .0, short .1 .0)
 
 returns-2 : tie.Need-returns-2
 unfolding strandMetrics
-returns-2 c = ap Of (c .strand-figures .ensures) ∙ answer-passed Refused _ (c .before .before .strand-refusal .ensures) (c .before .if1 .left)
+returns-2 c = ap Of (c .strand-figures .ensures) ∙ answer-passed Refused _ (c .before .before .rate-refusal .ensures) (c .before .if1 .left)
 
 pub strand-metrics-spec : {M : Type 1} → statement M
 strand-metrics-spec = tie.close (tie.spec (λ c κs. tt) returns strand-figures-requires returns-2)
