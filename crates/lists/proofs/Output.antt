@@ -18,7 +18,7 @@ use borrow.Author.Tests.{ne-eqb}
 use native.Mathlib.Numerals.{add-one}
 use lib.ListN.{length, take, drop, set, getD, replicate, length-append, length-take, length-drop, length-replicate, getD-replicate, take-append-drop}
 use borrow.Rule.Slice.PartMut.{putMid, midOf}
-use lib.Seq.{set-append-seam, take-suc, take-append-seam, drop-append-seam, drop-append-le, drop-drop, drop-cons, drop-length, set-at, length-take-le, take-all, take-length, append-snoc, getD-take}
+use lib.Seq.{set-append-seam, take-suc, take-append-seam, drop-append-seam, drop-append-le, drop-drop, drop-cons, drop-length, length-take-le, take-all, append-snoc, getD-take}
 use Rattle.lists.specs.Output.{unless, answer, put, after}
 
 module _ {A : Type 0} where
@@ -73,46 +73,39 @@ module _ {A : Type 0} where
   unfolding put
   put-snoc xs out v h = simp (length-append, append-snoc) (rw (add-one, drop-cons out (length xs) v h) (set-append-seam xs (getD out (length xs) v) (drop (suc (length xs)) out) v))
 
-  -- While xs is written, when the first i places are done, a lent output is `take i xs ++ drop i out`.
-  length-so-far : (i : ℕ) (xs out : List A) → i ≤ length xs → i ≤ length out → length (take i xs ++ drop i out) ≡ length out
-  length-so-far i xs out h k = simp (length-append, length-take, length-drop) (omega arith)
-
-  one-more : (i : ℕ) (xs out : List A) (d : A) → i < length xs → i < length out → set (take i xs ++ drop i out) i (getD xs i d) ≡ take (i + 1) xs ++ drop (i + 1) out
-  one-more i xs out d h k =
-      let short : length (take i xs) ≡ i = length-take-le i xs (omega arith) in
-      rw (add-one, drop-cons out i d k, take-suc xs i d h, append-snoc) (set-at (take i xs) (getD out i d) (drop (suc i) out) (getD xs i d) i short)
-
   -- The invariant of a loop that writes the n elements of xs to the front of `before`, one a turn: `now` is the output when i of them are written.
   pub record Filling (n : ℕ) (xs before : List A) (i : ℕ) (now : List A) : Type 0 where
     pub whole : length xs ≡ n
     pub room : n ≤ length before
     pub within : i ≤ n
-    pub so-far : now ≡ take i xs ++ drop i before
+    pub so-far : now ≡ put (take i xs) before
 
 module _ {A : Type 0} {n : ℕ} {xs before : List A} where
   pub begin : length xs ≡ n → n ≤ length before → Filling n xs before 0 before
+  unfolding put
   begin e h = record { whole = e; room = h; within = omega arith; so-far = refl }
 
   pub same : {i : ℕ} {now : List A} → Filling n xs before i now → length now ≡ length before
-  same {i} f = ap length (f .so-far) ∙ length-so-far i xs before (omega arith) (omega arith)
+  same {i} f = ap length (f .so-far) ∙ length-put (take i xs) before (omega (arith, length-take i xs))
 
   -- The place of the next store is there.
   pub fits : {i : ℕ} {now : List A} → Filling n xs before i now → i < n → i < length now
   fits f h = omega (arith, same f)
 
   pub next : {i : ℕ} {now : List A} (d v : A) → Filling n xs before i now → i < n → v ≡ getD xs i d → Filling n xs before (i + 1) (set now i v)
-  next {i} {now} d v f h e = record {
-    whole = f .whole;
-    room = f .room;
-    within = omega arith;
-    so-far = rw (f .so-far, e) (one-more i xs before d (omega arith) (omega arith));
-  }
+  next {i} {now} d v f h e =
+      let more : i < length xs = omega arith in
+      let here : length (take i xs) ≡ i = length-take-le i xs (omega arith) in
+      let stored = put-snoc (take i xs) before (getD xs i d) (omega arith) in
+      record {
+        whole = f .whole;
+        room = f .room;
+        within = omega arith;
+        so-far = rw (f .so-far, e, add-one, take-suc xs i d) (rw here at stored);
+      }
 
   pub done : {i : ℕ} {now : List A} → Filling n xs before i now → n ≤ i → now ≡ put xs before
-  unfolding put
-  done {i} f h =
-      let end : i ≡ length xs = omega arith in
-      f .so-far ∙ rw (end, take-length)
+  done {i} f h = f .so-far ∙ put-equal before (take-all i xs (omega arith))
 
 module _ {A : Type 0} where
   -- The invariant of a loop that writes as much of xs as there is room for: n elements of it.
