@@ -2,16 +2,18 @@
 --     depth-step, depths-all     a loop that folds them, one position a turn
 --     depth-bound                each is at most 65,534
 --     one-strand                 beside an empty strand they are the other's capped depths
+--     depths-sum, capped-sum     their sum, and a strand's, by the number of positions
 -- Assumes nothing.
 use mathlib.Core.Path.{_≡_, refl, sym, ap₂, _∙_}
 use mathlib.Core.List.{List, [], _∷_, foldl, map}
-use Prim.Native.Nat.{ℕ, zero, suc, _+_, _≤_, _<_}
+use Prim.Native.Nat.{ℕ, zero, suc, _+_, _*_, _≤_, _<_}
 use native.Mathlib.Nat.{add-zero}
 use native.Mathlib.Omega.{arith}
 use lib.ListN.{length, take, getD}
 use Rattle.lists.specs.Table.{tabulate}
 use Rattle.lists.proofs.Fold.{fold-step, fold-all}
 use Rattle.lists.proofs.Table.{length-tabulate, getD-tabulate}
+use Rattle.numbers.specs.Numbers.{total}
 use Rattle.caller.specs.Short.{short}
 use Rattle.duplex_metrics.specs.Metrics.{capped, recordDepth, recordDepths}
 
@@ -38,3 +40,15 @@ pub one-strand : (xs : List ℕ) → recordDepths (length xs) xs [] ≡ capped x
 unfolding recordDepths recordDepth capped tabulate short
 one-strand [] = refl
 one-strand (x ∷ xs) = ap₂ _∷_ (add-zero (short x)) (one-strand xs)
+
+table-sum : (n : ℕ) (f : ℕ → ℕ) (start : ℕ) → ((i : ℕ) → f i ≤ 65534) → foldl _+_ start (tabulate n f) ≤ start + 65534 * n
+unfolding tabulate
+table-sum zero f start h = omega arith
+table-sum (suc n) f start h = omega (arith, table-sum n (λ i. f (suc i)) (start + f 0) (λ i. h (suc i)), h 0)
+
+pub depths-sum : (positions : ℕ) (a b : List ℕ) → total (recordDepths positions a b) ≤ 65534 * positions
+unfolding recordDepths
+depths-sum positions a b = omega (arith, table-sum positions (recordDepth a b) 0 (depth-bound a b))
+
+pub capped-sum : (xs : List ℕ) → total (capped xs) ≤ 65534 * length xs
+capped-sum xs = rw one-strand at (depths-sum (length xs) xs [])

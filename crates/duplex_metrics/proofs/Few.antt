@@ -1,6 +1,7 @@
 -- Where the metrics are not refused, no array that is looked at has over 1,024 elements.
 --     few                     what passing means
---     part-few, looked-at     of an array of the second strand
+--     only-few                of an array of the second strand, where there is one
+--     part-few, looked-at     of the part of it that is looked at
 -- Assumes nothing.
 use mathlib.Core.Path.{_≡_, refl}
 use mathlib.Core.Bool.{Bool, true, false, cond}
@@ -38,6 +39,11 @@ few n e z =
       errors = each .1 .1 .1 .0;
       b = λ h. let both = not-too-long second (short-second h) in (both .0, both .1 .0);
     }
+
+pub only-few : (second : Bool) (xs : List ℕ) → (second ≡ true → length xs ≤ 1024) → length (onlyIf second xs) ≤ 1024
+unfolding onlyIf
+only-few true xs h = h refl
+only-few false xs h = omega arith
 
 -- The part of an array of the second strand that is looked at, r elements of it: all or none.
 module _ (second : Bool) (xs : List ℕ) {r : ℕ} (e : r ≡ cond second (length xs) 0) where

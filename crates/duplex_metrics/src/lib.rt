@@ -209,8 +209,8 @@ pub fn metrics_refusal(n: MetricsLengths) -> u8
     refuse_if(number, differ | (n.second & (n.bErrors != n.b)), RAGGED)
 }
 
-// How many of so many elements are looked at.
-fn counted(second: bool, n: usize) -> usize
+// How many of so many elements of the second strand are looked at.
+pub fn counted(second: bool, n: usize) -> usize
     ensures { λ r. ⌜ (r ≡ cond second n 0) × (r ≤ n) ⌝ }
 {
     if second { n } else { 0 }

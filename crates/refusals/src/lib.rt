@@ -39,6 +39,9 @@ pub const BELOW_LENGTH: u8 = 11;
 // A lent output is shorter than what goes there.
 pub const OUTPUT_TOO_SHORT: u8 = 12;
 
+// Bytes that do not read as what they stand for: a broken tray, or a byte count that does not fit the width.
+pub const BROKEN: u8 = 13;
+
 // The most positions of a strand or a record.
 pub const MAX_POSITIONS: usize = 1024;
 
