@@ -1,9 +1,21 @@
 -- The rows of specs/Positions.antt, each computed. Assumes nothing.
 use mathlib.Core.Path.{refl}
 use lib.Ieee.{ofInt, round, div, toBits}
+use Rattle.phred.specs.Phred.{capped}
 use Rattle.rates.specs.Rate.{rateOf}
+use Rattle.duplex_position.specs.Combination.{agreed, disagreed, masked, uncalled}
 use Rattle.positions.specs.Positions.{Positions}
 
 pub positions : Positions
-unfolding rateOf ofInt round div toBits
-positions = record { p12 = refl }
+unfolding rateOf ofInt round div toBits capped agreed disagreed masked uncalled
+positions = record {
+  p1 = refl;
+  p2 = refl;
+  p3 = refl;
+  p4 = refl;
+  p5 = refl;
+  p6 = refl;
+  p7 = refl;
+  p7-kept = refl;
+  p12 = refl;
+}
