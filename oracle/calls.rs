@@ -67,7 +67,11 @@ impl Said {
 }
 
 fn rust(answer: impl Display) -> Said {
-    Said { by_rust: true, text: String::new() }.and(answer)
+    rusts([answer])
+}
+
+fn rusts<T: Display>(answers: impl IntoIterator<Item = T>) -> Said {
+    answers.into_iter().fold(Said { by_rust: true, text: String::new() }, Said::and)
 }
 
 fn yes(answer: bool) -> Said {
@@ -81,6 +85,14 @@ fn table(row: u8) -> Said {
 // The first row whose condition is met.
 fn first(rows: &[(u8, bool)]) -> Option<u8> {
     rows.iter().find(|(_, met)| *met).map(|(row, _)| *row)
+}
+
+// The first of rows 7 and 8 that is met, by the lengths of the arrays of each strand and record.
+fn unfit(lengths: &[[usize; 2]]) -> Option<u8> {
+    first(&[
+        (7, lengths.iter().flatten().any(|&n| n > 1024)),
+        (8, lengths.iter().any(|[m, n]| m != n)),
+    ])
 }
 
 fn put<T: Copy>(out: &mut [T], written: &[T]) {
@@ -297,6 +309,85 @@ fn padded(v: &Vector, default: bool) -> Said {
     said.out(&marks_out).out(&unconverted_out).out(&converted_out)
 }
 
+fn error_rate(v: &Vector) -> Said {
+    let (depths, errors) = (v.u16s(0), v.u16s(1));
+    match unfit(&[[depths.len(), errors.len()]]) {
+        Some(row) => table(row),
+        None => rust(calculate_error_rate(&depths, &errors).to_bits()),
+    }
+}
+
+fn rate_bits(v: &Vector) -> Said {
+    let pairs = v.u32s(0).into_iter().zip(v.u32s(1));
+    rusts(pairs.map(|(errors, depths)| DuplexConsensusCaller::rate(errors.into(), depths.into()).to_bits()))
+}
+
+fn strand_metrics(v: &Vector) -> Said {
+    let (depths, errors) = (v.u16s(0), v.u16s(1));
+    if let Some(row) = unfit(&[[depths.len(), errors.len()]]) {
+        return table(row);
+    }
+    let (largest, smallest, depths, errors, _) =
+        DuplexConsensusCaller::ab_metrics(&strand(Vec::new(), Vec::new(), depths, errors));
+    rust(largest).and(smallest).and(depths).and(errors)
+}
+
+fn record(bases: Vec<u8>, errors: Vec<u16>, ab: VanillaConsensusRead, ba: Option<VanillaConsensusRead>) -> DuplexConsensusRead {
+    let (id, quals) = (String::new(), Vec::new());
+    DuplexConsensusRead { id, bases, quals, errors, ab_consensus: ab, ba_consensus: ba, is_ba_only: false }
+}
+
+// Fields 0 and 1: the first strand; 2: whether there is a second; 3 and 4: that one; 5 and 6: the record.
+fn duplex_metrics(v: &Vector) -> Said {
+    let (a_depths, a_errors, second) = (v.u16s(0), v.u16s(1), v.u8s(2)[0] != 0);
+    let (b_depths, b_errors, bases, errors) = (v.u16s(3), v.u16s(4), v.u8s(5), v.u16s(6));
+    let mut lengths = vec![[a_depths.len(), a_errors.len()], [bases.len(), errors.len()]];
+    if second {
+        lengths.push([b_depths.len(), b_errors.len()]);
+    }
+    if let Some(row) = unfit(&lengths) {
+        return table(row);
+    }
+    // The Rust has no nc: document 01 says what it is.
+    let nc = bases.iter().filter(|&&base| base == b'N').count();
+    let ab = strand(Vec::new(), Vec::new(), a_depths, a_errors);
+    let ba = second.then(|| strand(Vec::new(), Vec::new(), b_depths, b_errors));
+    let consensus = record(bases, errors, ab, ba);
+    let (ab, ba) = (&consensus.ab_consensus, consensus.ba_consensus.as_ref());
+    let (largest, smallest, _, _, rate) = DuplexConsensusCaller::ab_metrics(ab);
+    let said = rust(largest).and(smallest).and(rate.to_bits());
+    let (largest, smallest, rate) = DuplexConsensusCaller::ba_metrics(ba);
+    let said = said.and(largest).and(smallest).and(rate.to_bits());
+    let (largest, smallest, rate) = DuplexConsensusCaller::duplex_metrics(&consensus, ab, ba);
+    said.and(largest).and(smallest).and(rate.to_bits()).and(nc)
+}
+
+// Fields 0 to 2: the record's positions, and both strands' depths, none where a strand is absent; 3: the output.
+fn depths_of_record(v: &Vector, range: bool) -> Said {
+    let (positions, ab, ba) = (v.u64s(0)[0] as usize, v.u16s(1), v.u16s(2));
+    let mut depths = if range { Vec::new() } else { v.u16s(3) };
+    let refused = first(&[
+        (7, positions > 1024 || ab.len() > 1024 || ba.len() > 1024),
+        (12, !range && depths.len() < positions),
+    ]);
+    let said = if let Some(row) = refused {
+        table(row)
+    } else {
+        let strand = |depths| strand(Vec::new(), Vec::new(), depths, Vec::new());
+        let ba = if ba.is_empty() { None } else { Some(strand(ba)) };
+        let consensus = record(vec![b'A'; positions], Vec::new(), strand(ab), ba);
+        if range {
+            let (min, max) = consensus.depth_range();
+            rust(min).and(max)
+        } else {
+            let combined = consensus.combined_depths();
+            put(&mut depths, &combined);
+            rust(combined.len())
+        }
+    };
+    if range { said } else { said.out(&depths) }
+}
+
 // The calls by number: the same as in crates/replay/src/main.rt and vectors.py.
 fn said(call: u8, v: &Vector) -> Said {
     match call {
@@ -325,6 +416,12 @@ fn said(call: u8, v: &Vector) -> Said {
         23 => padded(v, false),
         24 => padded(v, true),
         25 => strand_of_mi(v),
+        26 => error_rate(v),
+        27 => rate_bits(v),
+        28 => strand_metrics(v),
+        29 => duplex_metrics(v),
+        30 => depths_of_record(v, false),
+        31 => depths_of_record(v, true),
         _ => panic!("no call {call}"),
     }
 }

@@ -14,7 +14,7 @@ def fail(message):
     sys.exit(f"oracle: {message}")
 
 
-def end(text, start):
+def end(text, start, closers="};"):
     """Past the closing brace of what starts there, or past its semicolon."""
     depth = 0
     for token in TOKEN.finditer(text, start):
@@ -23,7 +23,7 @@ def end(text, start):
             depth += 1
         elif mark in ")]}":
             depth -= 1
-        if depth == 0 and mark in "};":
+        if depth == 0 and mark in closers:
             return token.end()
     fail(f"no end of {text[start:start + 60]!r}")
 
@@ -66,8 +66,8 @@ class Source:
         return self.text[with_attributes(self.text, found[0]) : end(self.text, found[0])]
 
     def piece(self, name, first, last):
-        """The part of a function from the text `first` to the end of the statement that starts `last`."""
+        """The part of a function from the text `first` to the end of the statement that starts `last`: of a `let`, its semicolon."""
         body = self.item(name)
         if body.count(first) != 1 or body.count(last) != 1 or body.index(last) < body.index(first):
             fail(f"{self.name}: `{name}` has no single piece from `{first}` to `{last}`")
-        return body[body.index(first) : end(body, body.index(last))]
+        return body[body.index(first) : end(body, body.index(last), ";" if last.startswith("let ") else "};")]

@@ -66,6 +66,46 @@ class Draw:
         edges = [0, 1, 32767, 65536, 2**31, 2**32 - 1, self.rng.randrange(2**32)]
         return self.rng.choices(edges, k=count)
 
+    # Around what is said of rates, and where a conversion to a float starts to round.
+    SUMS = [n + near for n in [2896, 2948, 2**24, 2**25] for near in [-1, 0, 1]]
+
+    def with_sum(self, count, total, most):
+        """So many numbers up to the most, with that sum or the largest that they have."""
+        each, more = divmod(min(total, most * count), count)
+        values = [each + (i < more) for i in range(count)]
+        for i in range(0, count - 1, 2):
+            shift = self.rng.randrange(min(values[i], most - values[i + 1]) + 1)
+            values[i], values[i + 1] = values[i] - shift, values[i + 1] + shift
+        return values
+
+    def counts(self, count):
+        """Depths or errors."""
+        kind = self.rng.randrange(4)
+        if kind == 0 and count:
+            return self.with_sum(count, self.pick(self.SUMS), self.pick([32767, 65535]))
+        if kind == 1:
+            return self.rng.choices(range(65536), k=count)
+        return self.rng.choices(range(6), k=count) if kind == 2 else self.u16s(count)
+
+    def sum(self):
+        """A number of 32 bits: any, of any size, or at a tie of its conversion to a float or next to one."""
+        kind = self.rng.getrandbits(2)
+        if kind == 0:
+            return self.rng.getrandbits(32)
+        if kind == 1:
+            return self.rng.getrandbits(32) >> self.rng.getrandbits(5)
+        tie = (2**24 + 1 + 2 * self.rng.getrandbits(23)) << self.rng.getrandbits(3)
+        return tie + self.pick((-1, 0, 0, 1))
+
+    def positions(self):
+        return self.rng.randrange(900, 1025) if self.chance(25) else self.length()
+
+    def faulty(self, lengths, beside):
+        """The lengths, some of them changed."""
+        for _ in range(self.pick([0, 0, 0, 0, 1, 2])):
+            lengths[self.rng.randrange(len(lengths))] = self.pick([max(beside - 1, 0), beside + 1, 0, 1024, 1025])
+        return lengths
+
     def flags(self, count):
         edges = [0, 1, 0x10, 0x40, 0x41, 0x51, 0x80, 0x81, 0x91, 0xC1, self.rng.randrange(65536)]
         return self.rng.choices(edges, k=count)
@@ -188,9 +228,7 @@ def paddings(call, draw, count):
     make = {"b": lambda n: u8(draw.bytes(n)), "h": lambda n: u16(draw.u16s(n)), "w": lambda n: u32(draw.u32s(n))}
     for _ in range(count):
         n = draw.length()
-        lengths = [n] * 7
-        for _ in range(draw.pick([0, 0, 0, 0, 1, 2])):
-            lengths[draw.rng.randrange(7)] = draw.pick([max(n - 1, 0), n + 1, 0, 1024, 1025])
+        lengths = draw.faulty([n] * 7, n)
         new_length = draw.pick([n, n, n + 1, n + draw.rng.randrange(9)])
         if draw.chance(8):
             new_length = draw.pick([max(n - 1, 0), 0, 1023, 1024, 1025, 2**32, MANY])
@@ -199,6 +237,48 @@ def paddings(call, draw, count):
         outputs = [make[kind](draw.room(new_length)) for kind in kinds[:4]]
         outputs += [make[kind](draw.pick([draw.room(new_length), draw.length()])) for kind in kinds[4:]]
         yield vector(call, *strand, u8(settings), u64([new_length]), *outputs)
+
+
+def strands(call, draw, count):
+    """A strand's depths and errors."""
+    for _ in range(count):
+        n = draw.positions()
+        depths, errors = draw.faulty([n, n], n)
+        yield vector(call, u16(draw.counts(depths)), u16(draw.counts(errors)))
+
+
+def rates(call, draw, count):
+    """Pairs of sums: around SUMS, all up to 300, and 400 times as many others as there are vectors of another call."""
+    around = draw.SUMS + [2947, 2**26 - 1, 2**26 + 1, 2**26 + 2, 2**26 + 4, 2**31, 2**32 - 129, 2**32 - 128, 2**32 - 1, 0, 1, 2, 3]
+    yield vector(call, u32([2948, 2949, 2**24 + 1, 2**25 + 2]), u32([2947, 2948, 2**24 + 3, 2**25 + 6]))
+    few = itertools.chain(itertools.product(around, repeat=2), itertools.product(range(301), repeat=2))
+    pairs = itertools.chain(few, ((draw.sum(), draw.sum()) for _ in range(400 * count)))
+    while block := list(itertools.islice(pairs, draw.pick([30, 30, 30, PLACES]))):
+        yield vector(call, *(u32(sums) for sums in zip(*block)))
+
+
+def records(call, draw, count):
+    """Two strands' depths and errors, each strand perhaps of another length than the record, and its bases and errors."""
+    for (n, half), near in itertools.product([(8, 1448), (1024, 2**23), (1024, 2**24)], itertools.product([-1, 0, 1], repeat=3)):
+        a, b, errors = (u16(draw.with_sum(n, half + more, 32767)) for more in near)
+        yield vector(call, a, errors, u8([1]), b, errors, u8(draw.bytes(n)), errors)
+    for _ in range(count):
+        n = draw.positions()
+        a, b = (draw.pick([n, n, n, max(n - 1, 0), n + 1, draw.length()]) for _ in range(2))
+        a, a_errors, b, b_errors, bases, errors = draw.faulty([a, a, b, b, n, n], n)
+        first, second = ([u16(draw.counts(m)) for m in lengths] for lengths in [(a, a_errors), (b, b_errors)])
+        bases = draw.rng.choices(b"ACGTNn", k=bases)
+        yield vector(call, *first, u8([draw.pick([0, 1, 1, 255])]), *second, u8(bases), u16(draw.counts(errors)))
+
+
+def depth_pairs(call, draw, count, with_output):
+    """A record's positions, both strands' depths, and perhaps an output."""
+    for _ in range(count):
+        n = draw.pick([2**32, MANY]) if draw.chance(50) else draw.length()
+        near = min(n, 1024)
+        lengths = [draw.pick([near, near, max(near - 1, 0), near + 1, 0, draw.length()]) for _ in range(2)]
+        output = [u16(draw.u16s(draw.room(n)))] if with_output else []
+        yield vector(call, u64([n]), *(u16(draw.counts(m)) for m in lengths), *output)
 
 
 # The calls by number, the same as in calls.rs and crates/replay/src/main.rt: the name, and what makes the vectors.
@@ -228,4 +308,10 @@ CALLS = {
     23: ("vanilla_padded::padded", paddings),
     24: ("vanilla_padded::padded_default", paddings),
     25: ("duplex_partition::extract_strand_from_mi_bytes", suffixes),
+    26: ("caller::calculate_error_rate", strands),
+    27: ("rates::rate_bits, up to 1,100 to a line", rates),
+    28: ("duplex_metrics::strand_metrics", strands),
+    29: ("duplex_metrics::duplex_metrics", records),
+    30: ("duplex_depths::combined_depths", lambda call, draw, count: depth_pairs(call, draw, count, True)),
+    31: ("duplex_depths::depth_range", lambda call, draw, count: depth_pairs(call, draw, count, False)),
 }

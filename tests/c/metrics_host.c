@@ -1,6 +1,7 @@
 /* Calls gedrashiw_metrics as a C program does. Every array lies against unreadable pages: once it ends where a page ends, once
  * it starts where one starts, so that a read or write past either end stops the program. The whole output is compared, its
- * bytes past the written ones too. Expected values are written out here, or computed by `expect`, which follows document 01. */
+ * bytes past the written ones too. Expected values are those of the Rust in the fixed list, or written out here, or computed by
+ * `expect`, which follows document 01. */
 #define _DEFAULT_SOURCE
 #include "gedrashiw.h"
 
@@ -334,10 +335,93 @@ static void several(void)
     }
 }
 
-int main(void)
+/* ---- the Rust's answers: the vectors of crates/replay (oracle/README.md) and the lines that the Rust side wrote for them */
+
+enum { METRICS_CALL = 29 };
+
+static uint32_t number_at(const uint8_t *at, int bytes)
+{
+    uint32_t n = 0;
+    for (int i = bytes - 1; i >= 0; i--)
+        n = n << 8 | at[i];
+    return n;
+}
+
+/* The fields of a vector of the metrics, in the order of the call: depths, errors, second, depths, errors, bases, errors. */
+static struct given from_vector(const uint8_t *body)
+{
+    static const int field[] = {A, AE, -1, B, BE, BASES, ERRORS};
+    struct given g = fresh(0, 0, 0);
+    for (int k = 0; k < 7; k++) {
+        const uint8_t *from = body + number_at(body + 8 * k, 4);
+        size_t count = number_at(body + 8 * k + 4, 2);
+        if (count > MOST)
+            exit(2);
+        if (field[k] == -1)
+            g.second = from[0];
+        else if (field[k] == BASES)
+            memcpy(g.bases, from, count);
+        else
+            for (size_t i = 0; i < count; i++)
+                g.numbers[field[k]][i] = (uint16_t)number_at(from + 2 * i, 2);
+        if (field[k] != -1)
+            g.bytes[field[k]] = field[k] == BASES ? count : 2 * count;
+    }
+    return g;
+}
+
+static struct wanted from_line(const char *line)
+{
+    struct wanted w = {0, {0}};
+    unsigned refused;
+    if (sscanf(line, "29 refused %u", &refused) == 1) {
+        w.answer = (uint8_t)refused;
+        return w;
+    }
+    uint32_t *n = w.words;
+    if (sscanf(line, "29 %u %u %u %u %u %u %u %u %u %u", n, n + 1, n + 2, n + 3, n + 4, n + 5, n + 6, n + 7, n + 8, n + 9) != 10)
+        exit(2);
+    return w;
+}
+
+static void fixed_list(const char *vectors, const char *lines)
+{
+    static uint8_t body[1 << 18];
+    static char line[1 << 18];
+    uint8_t head[6];
+    int compared = 0;
+    FILE *v = fopen(vectors, "rb"), *l = fopen(lines, "r");
+    if (v == NULL || l == NULL) {
+        fail(vectors, "cannot be read");
+        return;
+    }
+    while (fread(head, 1, 6, v) == 6) {
+        size_t size = number_at(head + 2, 4);
+        if (size > sizeof body || fread(body, 1, size, v) != size || fgets(line, sizeof line, l) == NULL)
+            exit(2);
+        if (head[0] != METRICS_CALL)
+            continue;
+        struct given g = from_vector(body);
+        struct wanted w = from_line(line);
+        run("the fixed list", &g, &w);
+        compared++;
+    }
+    checks++;
+    if (compared == 0)
+        fail(vectors, "has no vector of the metrics");
+    fclose(v);
+    fclose(l);
+}
+
+/* With the files of vectors and lines as words. */
+int main(int words, char **word)
 {
     for (int k = 0; k < BLOCKS; k++)
         blocks[k] = block_new(2 * MOST);
+    if (words == 3)
+        fixed_list(word[1], word[2]);
+    else
+        fail("usage", "metrics_host VECTORS LINES");
     worked_examples();
     computed();
     refusals();

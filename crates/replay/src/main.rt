@@ -2,10 +2,13 @@
 // number, the answer, and every place of every output. oracle/README.md has the form of a vector. Uses every crate that has a
 // public call, io and libc.
 mod of_caller;
+mod of_depths;
 mod of_methylation;
+mod of_metrics;
 mod of_min_reads;
 mod of_molecule;
 mod of_partition;
+mod of_rates;
 mod of_reads;
 mod of_vanilla;
 mod read;
@@ -24,7 +27,7 @@ use lists::at_u8;
 const STDIN: i32 = 0;
 
 // How many fields the vector of a call has, by the call's number.
-const FIELDS: [u8; 26] = [
+const FIELDS: [u8; 32] = [
     0,
     1,
     1,
@@ -51,6 +54,12 @@ const FIELDS: [u8; 26] = [
     16,
     16,
     1,
+    2,
+    2,
+    2,
+    7,
+    4,
+    3,
 ];
 
 // The calls by number: the same as in oracle/calls.rs and oracle/vectors.py.
@@ -81,6 +90,12 @@ fn answer(call: u8, v: &[u8], out: &mut [u8], at: usize) -> usize {
         23 => of_vanilla::padded(v, false, out, at),
         24 => of_vanilla::padded(v, true, out, at),
         25 => of_partition::extract_strand(v, out, at),
+        26 => of_caller::error_rate(v, out, at),
+        27 => of_rates::rate_bits(v, out, at),
+        28 => of_metrics::strand_metrics(v, out, at),
+        29 => of_metrics::duplex_metrics(v, out, at),
+        30 => of_depths::combined_depths(v, out, at),
+        31 => of_depths::depth_range(v, out, at),
         _ => at,
     }
 }

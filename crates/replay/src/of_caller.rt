@@ -4,9 +4,12 @@ use crate::read::field;
 use crate::read::one_u16;
 use crate::read::one_u32;
 use crate::read::u8s;
+use crate::read::u16s;
+use crate::write::put_float;
 use crate::write::put_number;
 use crate::write::put_refused;
 use crate::write::put_u8s;
+use caller::ErrorRate;
 use caller::ReadName;
 
 pub(crate) fn cap_quality(v: &[u8], out: &mut [u8], at: usize) -> usize {
@@ -56,4 +59,15 @@ pub(crate) fn read_name(v: &[u8], out: &mut [u8], at: usize) -> usize {
     let mut name = [0u8; PLACES];
     let n = u8s(v, 2, &mut name);
     write_read_name(v, &mut name[..n], out, at)
+}
+
+pub(crate) fn error_rate(v: &[u8], out: &mut [u8], at: usize) -> usize {
+    let mut depths = [0u16; PLACES];
+    let mut errors = [0u16; PLACES];
+    let n0 = u16s(v, 0, &mut depths);
+    let n1 = u16s(v, 1, &mut errors);
+    match caller::calculate_error_rate(&depths[..n0], &errors[..n1]) {
+        ErrorRate::Refused(row) => put_refused(out, at, row),
+        ErrorRate::Rate(rate) => put_float(out, at, rate),
+    }
 }

@@ -84,6 +84,15 @@ pub(crate) fn put_bool(out: &mut [u8], at: usize, x: bool) -> usize {
     }
 }
 
+// A float's bits: all ones, which no number has, for a NaN.
+fn bits_of(x: f32) -> u32 {
+    if x != x { u32::MAX } else { f32::to_bits(x) }
+}
+
+pub(crate) fn put_float(out: &mut [u8], at: usize, x: f32) -> usize {
+    put_number(out, at, bits_of(x) as u64)
+}
+
 pub(crate) fn put_refused(out: &mut [u8], at: usize, row: u8) -> usize {
     let after = put_text(out, at, b" refused");
     put_number(out, after, row as u64)
