@@ -3,11 +3,13 @@ use mathlib.Core.Path.{refl}
 use lib.Ieee.{ofInt, round, div, toBits}
 use Rattle.phred.specs.Phred.{capped}
 use Rattle.rates.specs.Rate.{rateOf}
+use Rattle.caller.specs.Short.{short, shortOf}
+use Rattle.duplex_errors.specs.Errors.{agreeing, disagreeing}
 use Rattle.duplex_position.specs.Combination.{agreed, disagreed, masked, uncalled}
 use Rattle.positions.specs.Positions.{Positions}
 
 pub positions : Positions
-unfolding rateOf ofInt round div toBits capped agreed disagreed masked uncalled
+unfolding rateOf ofInt round div toBits capped agreed disagreed masked uncalled short shortOf agreeing disagreeing
 positions = record {
   p1 = refl;
   p2 = refl;
@@ -17,5 +19,7 @@ positions = record {
   p6 = refl;
   p7 = refl;
   p7-kept = refl;
+  p8 = refl;
+  p9 = refl;
   p12 = refl;
 }

@@ -1,8 +1,9 @@
--- Document 01's positions to prove, one row each: those of bases and qualities, and of rates.
+-- Document 01's positions to prove, one row each: those of bases and qualities, of errors without a list, and of rates.
 use mathlib.Core.Path.{_≡_}
 use Prim.Native.Nat.{ℕ}
 use Rattle.dna.specs.Dna.{letterA, letterC, letterN}
 use Rattle.rates.specs.Rate.{bitsOf}
+use Rattle.duplex_errors.specs.Errors.{agreeing, disagreeing}
 use Rattle.duplex_position.specs.Combination.{uncalled}
 use Rattle.duplex_position.specs.declared.Position.{Position}
 
@@ -29,5 +30,9 @@ pub record Positions : Type 0 where
   -- P7: 1 + 1: N2; 1 + 2 keeps the base with 3.
   pub p7 : uncalled letterA 1 letterA 1 ≡ masks letterA
   pub p7-kept : uncalled letterA 1 letterA 2 ≡ shows letterA 3
+  -- P8: no list, A wins, A's errors 0, B's depth 3 and errors 5: 0.
+  pub p8 : disagreeing 0 3 5 ≡ 0
+  -- P9: equal bases, errors 20,000 each: 32,767.
+  pub p9 : agreeing 20000 20000 ≡ 32767
   -- P12: 2 errors at a depth of 12.
   pub p12 : bitsOf 2 12 ≡ 0x3e2aaaab

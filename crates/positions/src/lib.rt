@@ -1,3 +1,2 @@
 // Document 01's positions to prove, P1 to P12, as rows of one claim about the definitions: specs/Positions.antt states them,
-// proofs/Positions.antt proves them. There is no code. Uses dna, phred, rates and
-// duplex_position.
+// proofs/Positions.antt proves them. There is no code. Uses dna, phred, rates, caller, duplex_position and duplex_errors.
