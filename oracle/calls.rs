@@ -389,6 +389,16 @@ fn depths_of_record(v: &Vector, range: bool) -> Said {
 }
 
 // The calls by number: the same as in crates/replay/src/main.rt and vectors.py.
+// One position of two strands without annotation or list. Field 0: A's base and quality, and B's; 1: A's depth and errors, B's.
+fn position(v: &Vector) -> Said {
+    let (b, n) = (v.u8s(0), v.u16s(1));
+    let a_strand = strand(vec![b[0]], vec![b[1]], vec![n[0]], vec![n[1]]);
+    let b_strand = strand(vec![b[2]], vec![b[3]], vec![n[2]], vec![n[3]]);
+    let (bases, quals, errors) =
+        DuplexConsensusCaller::combine_strands::<false>(&a_strand, &b_strand, 1, None, &mut None, &mut None);
+    rust(bases[0]).and(quals[0]).and(errors[0])
+}
+
 fn said(call: u8, v: &Vector) -> Said {
     match call {
         1 => rust(DuplexConsensusCaller::cap_quality(v.u16s(0)[0].into())),
@@ -422,6 +432,7 @@ fn said(call: u8, v: &Vector) -> Said {
         29 => duplex_metrics(v),
         30 => depths_of_record(v, false),
         31 => depths_of_record(v, true),
+        32 => position(v),
         _ => panic!("no call {call}"),
     }
 }

@@ -94,12 +94,12 @@ mod vanilla_caller {
 
 mod duplex_caller {
     use crate::anyhow::{self, Result, bail};
-    use crate::caller::clamp_per_base_to_fgbio_short;
+    use crate::caller::{clamp_combined_error_to_fgbio_short, clamp_per_base_to_fgbio_short};
     use crate::fgumi_raw_bam::{RawRecord, RawRecordView, flags};
     use crate::fgumi_sam::SamTag;
     use crate::methylation::ConversionPattern;
     use crate::phred::{MAX_PHRED, MIN_PHRED};
-    use crate::vanilla_caller::{ReadType, VanillaConsensusRead};
+    use crate::vanilla_caller::{ReadType, SourceRead, VanillaConsensusRead};
 
     // It has the fields of no caller: the functions that are taken have no self.
     pub struct DuplexConsensusCaller;

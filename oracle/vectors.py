@@ -282,6 +282,17 @@ def depth_pairs(call, draw, count, with_output):
 
 
 # The calls by number, the same as in calls.rs and crates/replay/src/main.rt: the name, and what makes the vectors.
+def positions(call, draw, count):
+    """All pairs of these bases and qualities, with depths and errors at the extremes."""
+    qualities = [0, 1, 2, 3, 30, 31, 46, 47, 62, 92, 93, 94, 255]
+    edges = [0, 1, 5, 20000, 32766, 32767, 32768, 65535]
+    for bases in itertools.product(b"ACGTNacgtn\x00\xff", repeat=2):
+        for a, b in itertools.product(qualities, repeat=2):
+            yield vector(call, u8([bases[0], a, bases[1], b]), u16([draw.pick(edges) for _ in range(4)]))
+    for _ in range(count):
+        yield vector(call, u8(draw.bytes(4)), u16([draw.rng.randrange(65536) for _ in range(4)]))
+
+
 CALLS = {
     1: ("phred::cap_quality", lambda call, draw, count: one_u16(call)),
     2: ("caller::clamp_per_base_to_fgbio_short", lambda call, draw, count: one_u16(call)),
@@ -314,4 +325,5 @@ CALLS = {
     29: ("duplex_metrics::duplex_metrics", records),
     30: ("duplex_depths::combined_depths", lambda call, draw, count: depth_pairs(call, draw, count, True)),
     31: ("duplex_depths::depth_range", lambda call, draw, count: depth_pairs(call, draw, count, False)),
+    32: ("duplex_position::combine_bases and duplex_errors", positions),
 }

@@ -8,6 +8,7 @@ mod of_metrics;
 mod of_min_reads;
 mod of_molecule;
 mod of_partition;
+mod of_position;
 mod of_rates;
 mod of_reads;
 mod of_vanilla;
@@ -27,7 +28,7 @@ use lists::at_u8;
 const STDIN: i32 = 0;
 
 // How many fields the vector of a call has, by the call's number.
-const FIELDS: [u8; 32] = [
+const FIELDS: [u8; 33] = [
     0,
     1,
     1,
@@ -60,6 +61,7 @@ const FIELDS: [u8; 32] = [
     7,
     4,
     3,
+    2,
 ];
 
 // The calls by number: the same as in oracle/calls.rs and oracle/vectors.py.
@@ -96,6 +98,7 @@ fn answer(call: u8, v: &[u8], out: &mut [u8], at: usize) -> usize {
         29 => of_metrics::duplex_metrics(v, out, at),
         30 => of_depths::combined_depths(v, out, at),
         31 => of_depths::depth_range(v, out, at),
+        32 => of_position::position(v, out, at),
         _ => at,
     }
 }
