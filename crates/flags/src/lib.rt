@@ -1,4 +1,4 @@
-// The FLAG bits of the SAM specification that a caller tests or writes (fgumi_raw_bam::flags).
+// The FLAG bits of the SAM specification that a caller tests or writes (fgumi_raw_bam::flags). Uses nothing.
 ghost use mathlib.Core.Path.{_≡_};
 ghost use Rattle.flags.specs.Flags.{isSet};
 
