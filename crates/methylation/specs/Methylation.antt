@@ -10,6 +10,7 @@ use Rattle.methylation.specs.declared.Annotation.{Annotation}
 use Rattle.methylation.specs.declared.Annotation.the-variants.{Absent, Of}
 use Rattle.methylation.specs.declared.ConversionPattern.{ConversionPattern}
 use Rattle.methylation.specs.declared.ConversionPattern.the-variants.{CToT, GToA}
+use Rattle.methylation.specs.declared.Evidence.{Evidence}
 use Rattle.methylation.specs.declared.MethylationMode.{MethylationMode}
 use Rattle.methylation.specs.declared.MethylationMode.the-variants.{Disabled, EmSeq, Taps}
 use Rattle.methylation.specs.declared.PatternBases.{PatternBases}
@@ -42,3 +43,11 @@ isCpgContext ref pos top =
     cond top
     (ltb (pos + 1) (length ref) && isCg (getD ref pos 0) (getD ref (pos + 1) 0))
     (ltb 0 pos && (ltb pos (length ref) && isCg (getD ref (pos - 1) 0) (getD ref pos 0)))
+
+-- Evidence of a position without a call: mark 0, both counts 0.
+abbrev pub clear : Evidence
+clear = record { mark = 0; unconverted = 0; converted = 0 }
+
+-- A record's evidence: marked, with its counts, or clear.
+unfoldable pub evidenceIf : Bool → ℕ → ℕ → Evidence
+evidenceIf kept unconverted converted = cond kept (record { mark = 1; unconverted = unconverted; converted = converted }) clear

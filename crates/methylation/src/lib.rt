@@ -1,6 +1,6 @@
 // Methylation: chemistries, conversion patterns and annotations, from methylation.rs and lib.rs. Uses dna and flags.
 ghost use mathlib.Core.Path.{_≡_};
-ghost use Rattle.methylation.specs.Methylation.{isEnabled, patternOfFlags, patternBases, isAnnotated, isCg, isCpgContext};
+ghost use Rattle.methylation.specs.Methylation.{isEnabled, patternOfFlags, patternBases, isAnnotated, isCg, isCpgContext, evidenceIf};
 use dna::eq_ignore_ascii_case;
 use flags::LAST_SEGMENT;
 use flags::is_set;
@@ -76,6 +76,13 @@ pub enum Annotation {
     Of(ConversionPattern),
 }
 
+// A strand's evidence at one position.
+pub struct Evidence {
+    pub mark: u8,
+    pub unconverted: u32,
+    pub converted: u32,
+}
+
 pub fn is_annotated(annotation: Annotation) -> bool
     ensures { λ r. ⌜ r ≡ isAnnotated annotation ⌝ }
 {
@@ -110,4 +117,22 @@ pub fn is_cpg_context(ref_seq: &[u8], pos: usize, is_top_strand: bool) -> bool
         return false;
     }
     is_cg(ref_seq[pos - 1], ref_seq[pos])
+}
+
+// Evidence as a record holds it: marked and with its counts where it is kept, clear where not.
+pub fn evidence_if(kept: bool, unconverted: u32, converted: u32) -> Evidence
+    ensures { λ r. ⌜ r ≡ evidenceIf kept unconverted converted ⌝ }
+{
+    if kept {
+        return Evidence {
+            mark: 1,
+            unconverted,
+            converted,
+        };
+    }
+    Evidence {
+        mark: 0,
+        unconverted: 0,
+        converted: 0,
+    }
 }
