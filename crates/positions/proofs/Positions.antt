@@ -1,15 +1,18 @@
 -- The rows of specs/Positions.antt, each computed. Assumes nothing.
 use mathlib.Core.Path.{refl}
 use lib.Ieee.{ofInt, round, div, toBits}
+use Rattle.dna.specs.Dna.{upper, sameLetter}
 use Rattle.phred.specs.Phred.{capped}
 use Rattle.rates.specs.Rate.{rateOf}
 use Rattle.caller.specs.Short.{short, shortOf}
 use Rattle.duplex_errors.specs.Errors.{agreeing, disagreeing}
-use Rattle.duplex_position.specs.Combination.{agreed, disagreed, masked, uncalled}
+use Rattle.duplex_molecule.specs.Molecule.{moleculeCall, callAt}
+use Rattle.duplex_call.specs.Annotated.{combined}
+use Rattle.duplex_position.specs.Combination.{agreed, disagreed, masked, uncalled, called}
 use Rattle.positions.specs.Positions.{Positions}
 
 pub positions : Positions
-unfolding rateOf ofInt round div toBits capped agreed disagreed masked uncalled short shortOf agreeing disagreeing
+unfolding rateOf ofInt round div toBits capped agreed disagreed masked uncalled short shortOf agreeing disagreeing upper sameLetter moleculeCall callAt called combined
 positions = record {
   p1 = refl;
   p2 = refl;
@@ -21,5 +24,7 @@ positions = record {
   p7-kept = refl;
   p8 = refl;
   p9 = refl;
+  p10 = refl;
+  p10-marked = refl;
   p12 = refl;
 }

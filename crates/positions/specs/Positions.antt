@@ -1,8 +1,11 @@
--- Document 01's positions to prove, one row each: those of bases and qualities, of errors without a list, and of rates.
+-- Document 01's positions to prove, one row each: those of bases and qualities, of errors without a list, of a methylation call, and
+-- of rates.
 use mathlib.Core.Path.{_≡_}
 use Prim.Native.Nat.{ℕ}
-use Rattle.dna.specs.Dna.{letterA, letterC, letterN}
+use Rattle.dna.specs.Dna.{letterA, letterC, letterN, letterT}
 use Rattle.rates.specs.Rate.{bitsOf}
+use Rattle.duplex_call.specs.Annotated.{combined}
+use Rattle.duplex_molecule.specs.declared.CtInput.the-variants.{IsA}
 use Rattle.duplex_errors.specs.Errors.{agreeing, disagreeing}
 use Rattle.duplex_position.specs.Combination.{uncalled}
 use Rattle.duplex_position.specs.declared.Position.{Position}
@@ -34,5 +37,8 @@ pub record Positions : Type 0 where
   pub p8 : disagreeing 0 3 5 ≡ 0
   -- P9: equal bases, errors 20,000 each: 32,767.
   pub p9 : agreeing 20000 20000 ≡ 32767
+  -- P10: the C-to-T strand shows T30, the other C40: C40 without an informative mark, C70 with one.
+  pub p10 : combined IsA letterT 30 0 letterC 40 0 ≡ shows letterC 40
+  pub p10-marked : combined IsA letterT 30 1 letterC 40 0 ≡ shows letterC 70
   -- P12: 2 errors at a depth of 12.
   pub p12 : bitsOf 2 12 ≡ 0x3e2aaaab

@@ -1,0 +1,66 @@
+// The consensus gate, from duplex_caller.rs: whether a record's strands were covered deeply enough. Uses lists, refusals, numbers,
+// duplex_min_reads and duplex_reads.
+ghost use mathlib.Core.Path.{_≡_};
+ghost use Prim.Native.Nat.{min};
+ghost use Rattle.duplex_gate.specs.ConsensusGate.{largestWithin, consensusGate};
+use duplex_min_reads::Validated;
+use duplex_min_reads::reaches;
+use duplex_min_reads::validate_min_reads;
+use duplex_reads::Gate;
+use numbers::max_u16;
+use refusals::MAX_POSITIONS;
+use refusals::TOO_LONG;
+use refusals::refuse_if;
+
+fn shorter(a: usize, b: usize) -> usize
+    ensures { λ r. ⌜ r ≡ min a b ⌝ }
+{
+    if a < b { a } else { b }
+}
+
+// The largest of a strand's depths within the record's length, uncapped; 0 where there are none.
+fn largest_within(positions: usize, depths: &[u16]) -> u16
+    ensures { λ r. ⌜ r ≡ largestWithin positions (now (depths .entry)) ⌝ }
+{
+    let n = shorter(positions, depths.len());
+    let mut found = 0;
+    let mut i = 0;
+    while i < n {
+        found = max_u16(found, depths[i]);
+        i += 1;
+    }
+    found
+}
+
+// The consensus gate of a record of so many positions: whether its strands' largest depths there, uncapped, reach the thresholds.
+// An absent strand has no depths. Refuses by the thresholds' rows, then by 7.
+pub fn duplex_consensus_has_minimum_reads(
+    positions: usize,
+    ab_depths: &[u16],
+    ba_depths: &[u16],
+    min_reads: &[u32],
+) -> Gate
+    ensures { λ r. ⌜ r ≡ consensusGate positions (now («ab_depths» .entry)) (now («ba_depths» .entry)) (now («min_reads» .entry)) ⌝ }
+{
+    match validate_min_reads(min_reads) {
+        Validated::Refused(number) => Gate::Refused(number),
+        Validated::Thresholds(thresholds) => {
+            let number = refuse_if(
+                0,
+                (MAX_POSITIONS < positions)
+                    | ((MAX_POSITIONS < ab_depths.len()) | (MAX_POSITIONS < ba_depths.len())),
+                TOO_LONG,
+            );
+            if number != 0 {
+                return Gate::Refused(number);
+            }
+            let ab = largest_within(positions, ab_depths);
+            let ba = largest_within(positions, ba_depths);
+            if reaches(thresholds, ab as u32, ba as u32) {
+                Gate::Kept
+            } else {
+                Gate::Below
+            }
+        }
+    }
+}
