@@ -1,0 +1,5 @@
+pub mod Arrays
+pub mod Counts
+pub mod Gating
+pub mod InPlace
+pub mod Truncating

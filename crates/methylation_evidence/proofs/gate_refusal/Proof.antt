@@ -1,0 +1,12 @@
+-- `methylation_evidence::gate_refusal` meets its contract: its tests are the faults, in the table's order. Assumes nothing.
+use Rattle.refusals.proofs.Refusal.{in-order}
+use Rattle.methylation_evidence.specs.Gate.{gateFaults}
+use Rattle.methylation_evidence.proofs.gate_refusal.Statement.{statement}
+use Rattle.methylation_evidence.proofs.gate_refusal.Tie as tie
+
+returns : tie.Need-returns
+unfolding gateFaults
+returns c = in-order _ tt (cc)
+
+pub gate-refusal-spec : {M : Type 1} → statement M
+gate-refusal-spec = tie.close (tie.spec (λ c κs. tt) (λ c κs. tt) (λ c κs. tt) (λ c κs. tt) returns)

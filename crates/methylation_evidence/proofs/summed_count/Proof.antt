@@ -1,0 +1,9 @@
+-- `methylation_evidence::summed_count` meets its contract: the two counts are read, added and held. Assumes nothing.
+use Rattle.methylation_evidence.proofs.summed_count.Statement.{statement}
+use Rattle.methylation_evidence.proofs.summed_count.Tie as tie
+
+returns : tie.Need-returns
+returns c = cc
+
+pub summed-count-spec : {M : Type 1} → statement M
+summed-count-spec = tie.close (tie.spec (λ c κs. tt) (λ c κs. tt) (λ c κs. tt) (λ c κs. tt) returns)

@@ -1,0 +1,43 @@
+-- Evidence as a single-strand record holds it, document 01: cleared (mark 0, both counts 0) where not informative.
+use Prim.Native.Nat.{ℕ}
+use mathlib.Core.Path.{_≡_}
+use mathlib.Core.List.{List, [], _∷_}
+use lib.ListN.{length, getD}
+use Rattle.lists.specs.Output.{answer}
+use Rattle.lists.specs.Table.{tabulate}
+use Rattle.refusals.specs.Refusal.{Fault, _if_, refusal}
+use Rattle.methylation.specs.Methylation.{evidenceIf}
+use Rattle.methylation.specs.declared.Evidence.{Evidence}
+use Rattle.methylation_evidence.specs.Arrays.{EvidenceArrays, lengths, informative, evidenceTooLong, evidenceRagged, EvidenceLeaves}
+use Rattle.methylation_evidence.specs.declared.EvidenceLengths.{EvidenceLengths}
+use Rattle.methylation_evidence.specs.declared.Positions.{Positions}
+use Rattle.methylation_evidence.specs.declared.Positions.the-variants.{Refused, Written}
+
+-- At one position: kept, with mark 1, where the mark says informative.
+abbrev pub gatedAt : EvidenceArrays → ℕ → Evidence
+gatedAt e i = evidenceIf (informative (getD (e .marks) i 0)) (getD (e .unconverted) i 0) (getD (e .converted) i 0)
+
+-- At every position.
+unfoldable pub gated : EvidenceArrays → EvidenceArrays
+gated e =
+    let n = length (e .marks) in
+    record {
+      marks = tabulate n (λ i. gatedAt e i .mark);
+      unconverted = tabulate n (λ i. gatedAt e i .unconverted);
+      converted = tabulate n (λ i. gatedAt e i .converted);
+    }
+
+-- By the lengths of the arrays.
+unfoldable pub gateFaults : EvidenceLengths → List Fault
+gateFaults e =
+    (7 if evidenceTooLong e)
+    ∷ (8 if evidenceRagged e)
+    ∷ []
+
+abbrev pub gateRefused : EvidenceArrays → ℕ
+gateRefused e = refusal (gateFaults (lengths e))
+
+-- What a call of `gate_to_informative` answers and leaves in the arrays.
+pub record GatedAs (before now : EvidenceArrays) (r : Positions) : Type 0 where
+  pub answered : r ≡ answer Refused (gateRefused before) (Written (length (before .marks)))
+  pub outputs : EvidenceLeaves (gateRefused before) (gated before) before now

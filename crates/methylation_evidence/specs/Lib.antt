@@ -1,0 +1,4 @@
+pub mod Arrays
+pub mod Counts
+pub mod Gate
+pub mod Truncate
