@@ -1,9 +1,11 @@
--- Document 01's positions to prove, one row each: those of bases and qualities, of errors without a list, of a methylation call, and
--- of rates.
+-- Document 01's positions to prove, one row each: those of bases and qualities, of errors without a list, of methylation calls and
+-- their ML byte, and of rates.
 use mathlib.Core.Path.{_≡_}
 use Prim.Native.Nat.{ℕ}
 use Rattle.dna.specs.Dna.{letterA, letterC, letterN, letterT}
 use Rattle.rates.specs.Rate.{bitsOf}
+use Rattle.methylation.specs.declared.MethylationMode.the-variants.{EmSeq}
+use Rattle.methylation_calls.specs.Calls.{mlOf}
 use Rattle.duplex_call.specs.Annotated.{combined}
 use Rattle.duplex_molecule.specs.declared.CtInput.the-variants.{IsA}
 use Rattle.duplex_errors.specs.Errors.{agreeing, disagreeing}
@@ -40,5 +42,8 @@ pub record Positions : Type 0 where
   -- P10: the C-to-T strand shows T30, the other C40: C40 without an informative mark, C70 with one.
   pub p10 : combined IsA letterT 30 0 letterC 40 0 ≡ shows letterC 40
   pub p10-marked : combined IsA letterT 30 1 letterC 40 0 ≡ shows letterC 70
+  -- P11: 3 of 4 unconverted, EM-Seq: 192; 4 of 4: 255.
+  pub p11 : mlOf EmSeq 3 1 ≡ 192
+  pub p11-all : mlOf EmSeq 4 0 ≡ 255
   -- P12: 2 errors at a depth of 12.
   pub p12 : bitsOf 2 12 ≡ 0x3e2aaaab

@@ -1,1 +1,6 @@
+pub mod Adding
+pub mod Counted
+pub mod Relend
+pub mod Smallest
 pub mod Walk
+pub mod Written

@@ -1,22 +1,21 @@
 // Source reads: a list of reads, each with its flags and its bases as a part of one byte buffer, and how many of them are errors
-// at a position. Uses lists, refusals, flags and duplex_molecule.
+// at each position of a record. Uses lists, numbers, flags, duplex_molecule and duplex_call.
 ghost use mathlib.Core.Path.{_≡_};
-ghost use mathlib.Core.Bool.{_||_};
-ghost use Prim.Native.Nat.{_<_};
-ghost use Rattle.lists.specs.Count.{countIf};
-ghost use Rattle.lists.specs.Output.{answer};
-ghost use Rattle.refusals.specs.Refusal.{refusal};
-ghost use Rattle.source_reads.specs.Reads.{readLeaves, expectedBase, readError, countedErrors, anyLeaves, sourceFaults, sourceErrors};
-ghost use Rattle.source_reads.specs.declared.SourceErrors.the-variants.{Refused, Errors};
+ghost use mathlib.Core.Bool.{_&&_, _||_};
+ghost use mathlib.Core.List.{[], _∷_};
+ghost use Prim.Native.Nat.{min};
+ghost use Rattle.numbers.specs.Numbers.{smallest};
+ghost use Rattle.duplex_position.specs.Combination.{uncalled};
+ghost use Rattle.source_reads.specs.Bases.{unmaskedAt, Within, basesErrors};
+ghost use Rattle.source_reads.specs.Reads.{readLeaves, anyLeaves, oneMore, expectedAt, countedErrors};
+use duplex_call::expected_base;
+use duplex_molecule::CtInput;
 use duplex_molecule::is_error;
 use flags::LAST_SEGMENT;
 use flags::is_set;
-use lists::at_u8;
 use lists::part_leaves;
-use refusals::MAX_READS;
-use refusals::PART_OUTSIDE;
-use refusals::TOO_MANY_READS;
-use refusals::refuse_if;
+use lists::part_u8;
+use numbers::saturating_add_u16;
 
 // A read: its flags, and where its bases are in a byte buffer.
 pub struct SourceRead {
@@ -25,77 +24,10 @@ pub struct SourceRead {
     pub length: usize,
 }
 
-pub enum SourceErrors {
-    Refused(u8),
-    // So many reads are errors at the position.
-    Errors(u32),
-}
-
 fn read_leaves(read: SourceRead, size: usize) -> bool
     ensures { λ r. ⌜ r ≡ readLeaves size read ⌝ }
 {
     part_leaves(read.offset, read.length, size)
-}
-
-// What a read with these flags should show: `last` with flag 0x80, `first` without.
-fn expected_base(flags: u16, first: u8, last: u8) -> u8
-    ensures { λ r. ⌜ r ≡ expectedBase flags first last ⌝ }
-{
-    if is_set(flags, LAST_SEGMENT) {
-        return last;
-    }
-    first
-}
-
-// Whether a read has a base at a position that is an error. `first` is what a read without flag 0x80 should show there, `last`
-// one with it.
-pub fn is_read_error(read: SourceRead, bytes: &[u8], position: usize, first: u8, last: u8) -> bool
-    ensures { λ r. ⌜ r ≡ readError (now (bytes .entry)) position first last read ⌝ }
-{
-    if read_leaves(read, bytes.len()) {
-        return false;
-    }
-    if position >= read.length {
-        return false;
-    }
-    let expected = expected_base(read.flags, first, last);
-    is_error(at_u8(bytes, read.offset + position, 0), expected)
-}
-
-// The number of errors after one more read.
-fn count_one(
-    so_far: u32,
-    read: SourceRead,
-    bytes: &[u8],
-    position: usize,
-    first: u8,
-    last: u8,
-) -> u32
-    requires { ⌜ «so_far» < 1024 ⌝ }
-    ensures { λ r. ⌜ r ≡ countIf (readError (now (bytes .entry)) position first last) «so_far» read ⌝ }
-{
-    if is_read_error(read, bytes, position, first, last) {
-        return so_far + 1;
-    }
-    so_far
-}
-
-// Over 1,024 reads are not counted.
-fn count_errors(reads: &[SourceRead], bytes: &[u8], position: usize, first: u8, last: u8) -> u32
-    ensures { λ r. ⌜ r ≡ countedErrors (now (bytes .entry)) position first last (now (reads .entry)) ⌝ }
-{
-    let n = reads.len();
-    if MAX_READS < n {
-        return 0;
-    }
-    let mut sum = 0u32;
-    let mut i = 0usize;
-    while i < n {
-        let r = reads[i];
-        sum = count_one(sum, r, bytes, position, first, last);
-        i += 1;
-    }
-    sum
 }
 
 // Whether one more read's part leaves the buffer, or one before.
@@ -105,9 +37,13 @@ fn leaves_too(met: bool, read: SourceRead, size: usize) -> bool
     met | read_leaves(read, size)
 }
 
-fn any_part_leaves(reads: &[SourceRead], size: usize) -> bool
-    ensures { λ r. ⌜ r ≡ anyLeaves size (now (reads .entry)) ⌝ }
+// Whether the part of some read leaves a buffer of a size. Where there is no list, the reads are not looked at.
+pub fn list_leaves(listed: bool, reads: &[SourceRead], size: usize) -> bool
+    ensures { λ r. ⌜ r ≡ (listed && anyLeaves size (now (reads .entry))) ⌝ }
 {
+    if !listed {
+        return false;
+    }
     let n = reads.len();
     let mut met = false;
     let mut i = 0usize;
@@ -119,34 +55,158 @@ fn any_part_leaves(reads: &[SourceRead], size: usize) -> bool
     met
 }
 
-fn source_refusal(n: usize, leaving: bool) -> u8
-    ensures { λ r. ⌜ r ≡ refusal (sourceFaults n leaving) ⌝ }
+fn smaller(a: usize, b: usize) -> usize
+    ensures { λ r. ⌜ r ≡ min a b ⌝ }
 {
-    let number = refuse_if(0, MAX_READS < n, TOO_MANY_READS);
-    refuse_if(number, leaving, PART_OUTSIDE)
+    if a < b { a } else { b }
 }
 
-fn source_answer(n: usize, leaving: bool, errors: u32) -> SourceErrors
-    ensures { λ r. ⌜ r ≡ answer Refused (refusal (sourceFaults n leaving)) (Errors errors) ⌝ }
+// As many positions as are asked for, and no more than each array has.
+fn counted_length(
+    positions: usize,
+    a_bases: usize,
+    a_quals: usize,
+    b_bases: usize,
+    b_quals: usize,
+    errors: usize,
+) -> usize
+    ensures { λ r. ⌜ r ≡ smallest (positions ∷ «a_bases» ∷ «a_quals» ∷ «b_bases» ∷ «b_quals» ∷ errors ∷ []) ⌝ }
 {
-    let number = source_refusal(n, leaving);
-    if number != 0 {
-        return SourceErrors::Refused(number);
+    let a = smaller(smaller(positions, a_bases), a_quals);
+    smaller(smaller(smaller(a, b_bases), b_quals), errors)
+}
+
+// The base before it is masked, where there is no call.
+fn unmasked_base(a_base: u8, a_qual: u8, b_base: u8, b_qual: u8) -> u8
+    ensures { λ r. ⌜ r ≡ uncalled «a_base» «a_qual» «b_base» «b_qual» .raw ⌝ }
+{
+    if a_qual < b_qual { b_base } else { a_base }
+}
+
+fn one_more(error: bool, so_far: u16) -> u16
+    ensures { λ r. ⌜ r ≡ oneMore error «so_far» ⌝ }
+{
+    if error {
+        return saturating_add_u16(so_far, 1);
     }
-    SourceErrors::Errors(errors)
+    so_far
 }
 
-// How many of the reads are errors at a position. Refuses by 9, then 10.
-pub fn source_errors(
+// Adds the errors of the first n bases of a read where no position has a call.
+fn add_uncalled_errors(
+    bases: &[u8],
+    n: usize,
+    a_bases: &[u8],
+    a_quals: &[u8],
+    b_bases: &[u8],
+    b_quals: &[u8],
+    errors: &mut [u16],
+)
+    requires { ⌜ Within n (now bases) (now «a_bases») (now «a_quals») (now «b_bases») (now «b_quals») (now errors) ⌝ }
+    ensures { λ _. ⌜ now (errors .exit) ≡ basesErrors n (now (bases .entry)) (unmaskedAt (now («a_bases» .entry)) (now («a_quals» .entry)) (now («b_bases» .entry)) (now («b_quals» .entry))) (now (errors .entry)) ⌝ }
+{
+    let mut i = 0;
+    while i < n {
+        let expected = unmasked_base(a_bases[i], a_quals[i], b_bases[i], b_quals[i]);
+        errors[i] = one_more(is_error(bases[i], expected), errors[i]);
+        i += 1;
+    }
+}
+
+// Adds the errors of the first n bases of a read. `last` says that it has the flag 0x80.
+fn add_called_errors(
+    bases: &[u8],
+    last: bool,
+    ct: CtInput,
+    n: usize,
+    a_bases: &[u8],
+    a_quals: &[u8],
+    b_bases: &[u8],
+    b_quals: &[u8],
+    errors: &mut [u16],
+)
+    requires { ⌜ Within n (now bases) (now «a_bases») (now «a_quals») (now «b_bases») (now «b_quals») (now errors) ⌝ }
+    ensures { λ _. ⌜ now (errors .exit) ≡ basesErrors n (now (bases .entry)) (λ i. expectedAt ct (now («a_bases» .entry)) (now («a_quals» .entry)) (now («b_bases» .entry)) (now («b_quals» .entry)) i last) (now (errors .entry)) ⌝ }
+{
+    let mut i = 0;
+    while i < n {
+        let expected = expected_base(ct, a_bases[i], a_quals[i], b_bases[i], b_quals[i], last);
+        errors[i] = one_more(is_error(bases[i], expected), errors[i]);
+        i += 1;
+    }
+}
+
+// Adds the errors of a read at the first positions: as many as are asked for, and no more than each array has.
+fn add_read_errors(
+    read: SourceRead,
+    bytes: &[u8],
+    ct: CtInput,
+    positions: usize,
+    a_bases: &[u8],
+    a_quals: &[u8],
+    b_bases: &[u8],
+    b_quals: &[u8],
+    errors: &mut [u16],
+)
+    ensures { λ _. ⌜ now (errors .exit) ≡ countedErrors (read ∷ []) (now (bytes .entry)) ct positions (now («a_bases» .entry)) (now («a_quals» .entry)) (now («b_bases» .entry)) (now («b_quals» .entry)) (now (errors .entry)) ⌝ }
+{
+    let bases = part_u8(bytes, read.offset, read.length);
+    let all = counted_length(
+        positions,
+        a_bases.len(),
+        a_quals.len(),
+        b_bases.len(),
+        b_quals.len(),
+        errors.len(),
+    );
+    let n = smaller(all, bases.len());
+    if let CtInput::Neither = ct {
+        add_uncalled_errors(bases, n, a_bases, a_quals, b_bases, b_quals, errors);
+    } else {
+        let last = is_set(read.flags, LAST_SEGMENT);
+        add_called_errors(
+            bases,
+            last,
+            ct,
+            n,
+            a_bases,
+            a_quals,
+            b_bases,
+            b_quals,
+            errors,
+        );
+    }
+}
+
+// Adds the errors of each read at the first positions: as many as are asked for, and no more than each array has.
+pub fn count_read_errors(
     reads: &[SourceRead],
     bytes: &[u8],
-    position: usize,
-    first: u8,
-    last: u8,
-) -> SourceErrors
-    ensures { λ r. ⌜ r ≡ sourceErrors (now (reads .entry)) (now (bytes .entry)) position first last ⌝ }
+    ct: CtInput,
+    positions: usize,
+    a_bases: &[u8],
+    a_quals: &[u8],
+    b_bases: &[u8],
+    b_quals: &[u8],
+    errors: &mut [u16],
+)
+    ensures { λ _. ⌜ now (errors .exit) ≡ countedErrors (now (reads .entry)) (now (bytes .entry)) ct positions (now («a_bases» .entry)) (now («a_quals» .entry)) (now («b_bases» .entry)) (now («b_quals» .entry)) (now (errors .entry)) ⌝ }
 {
-    let leaving = any_part_leaves(reads, bytes.len());
-    let errors = count_errors(reads, bytes, position, first, last);
-    source_answer(reads.len(), leaving, errors)
+    let n = reads.len();
+    let mut i = 0usize;
+    while i < n {
+        let r = reads[i];
+        add_read_errors(
+            r,
+            bytes,
+            ct,
+            positions,
+            a_bases,
+            a_quals,
+            b_bases,
+            b_quals,
+            errors,
+        );
+        i += 1;
+    }
 }

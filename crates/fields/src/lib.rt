@@ -1,0 +1,50 @@
+// One field of the tag-length-value encoding of document 01's tray: a tag byte, the value's length in two bytes, low byte first,
+// and the value. What tags and values mean is for the crates above. Uses lists.
+ghost use mathlib.Core.Path.{_≡_};
+ghost use Rattle.fields.specs.Encoding.{valueLength, nextField};
+
+// A field of a byte buffer: its tag, and where its value is.
+pub struct FieldAt {
+    pub tag: u8,
+    pub offset: usize,
+    pub length: usize,
+}
+
+pub enum NextField {
+    // No bytes are left.
+    End,
+    // Bytes are left, and no whole field.
+    Cut,
+    // A field. The next one begins at its offset plus its length.
+    Whole(FieldAt),
+}
+
+// The length of a value, from its two bytes.
+fn value_length(low: u8, high: u8) -> usize
+    ensures { λ r. ⌜ r ≡ valueLength low high ⌝ }
+{
+    low as usize + 256 * high as usize
+}
+
+// The field that begins at a place. A place past the end has none.
+pub fn next_field(bytes: &[u8], at: usize) -> NextField
+    ensures { λ r. ⌜ r ≡ nextField (now (bytes .entry)) at ⌝ }
+{
+    let n = bytes.len();
+    if n <= at {
+        return NextField::End;
+    }
+    if n - at < 3 {
+        return NextField::Cut;
+    }
+    let length = value_length(bytes[at + 1], bytes[at + 2]);
+    let offset = at + 3;
+    if n - offset < length {
+        return NextField::Cut;
+    }
+    NextField::Whole(FieldAt {
+        tag: bytes[at],
+        offset,
+        length,
+    })
+}

@@ -1,0 +1,2 @@
+pub mod Ml
+pub mod Examples

@@ -1,0 +1,6 @@
+pub mod Order
+pub mod Spans
+pub mod Accepted
+pub mod Claims
+pub mod AfterMarker
+pub mod Examples

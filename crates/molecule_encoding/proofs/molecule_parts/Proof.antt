@@ -1,0 +1,20 @@
+-- `molecule_encoding::molecule_parts` meets its contract: each part is looked for by its tag. Assumes nothing.
+use borrow.Author.Needs.{needs}
+use Rattle.molecule_encoding.specs.Format.{molecule}
+use Rattle.molecule_encoding.proofs.molecule_parts.Statement.{statement}
+use Rattle.molecule_encoding.proofs.molecule_parts.Tie as tie
+
+returns : tie.Need-returns
+unfolding molecule
+returns c = cc
+
+pub molecule-parts-spec : {M : Type 1} → statement M
+molecule-parts-spec =
+    tie.close
+    (tie.spec
+    (λ c κs. search needs)
+    (λ c κs. search needs)
+    (λ c κs. search needs)
+    (λ c κs. search needs)
+    (λ c κs. search needs)
+    returns)

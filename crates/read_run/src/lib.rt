@@ -1,0 +1,110 @@
+// A run of reads, as an encoded molecule (the tray of document 01) and the entry points for C have it: whole fields 30 of the
+// tag-length-value encoding, each of flags, low byte first, and bases. A read's bases stay a part of the run.
+// Uses lists, refusals, fields, molecule_fields and source_reads.
+ghost use mathlib.Core.Path.{_≡_};
+ghost use Rattle.fields.specs.Encoding.{fieldAt};
+ghost use Rattle.read_run.specs.Run.{word, flagsOf, nextRead, ListedAs};
+use fields::FieldAt;
+use fields::NextField;
+use fields::next_field;
+use lists::at_u8;
+use lists::part_u8;
+use molecule_fields::READ;
+use refusals::MAX_READS;
+use source_reads::SourceRead;
+
+pub enum NextRead {
+    // No bytes are left.
+    End,
+    // What is left does not begin with a whole field 30 that has flags.
+    Broken,
+    // A read, and where the next one begins.
+    Read { read: SourceRead, next: usize },
+}
+
+// The reads of a run up to its end, or to where it is broken: how many there are, and the first 1,024 of them. The other places
+// hold reads without flags or bases.
+pub struct ReadList {
+    pub broken: bool,
+    pub count: usize,
+    pub reads: [SourceRead; 1024],
+}
+
+const NO_READ: SourceRead = SourceRead {
+    flags: 0,
+    offset: 0,
+    length: 0,
+};
+
+fn word_of(low: u8, high: u8) -> u16
+    ensures { λ r. ⌜ r ≡ word low high ⌝ }
+{
+    low as u16 + 256 * high as u16
+}
+
+// The flags of a read that is a field of the run.
+fn read_flags(run: &[u8], f: FieldAt) -> u16
+    ensures { λ r. ⌜ r ≡ flagsOf (fieldAt (now (run .entry)) f) ⌝ }
+{
+    let value = part_u8(run, f.offset, f.length);
+    word_of(at_u8(value, 0, 0), at_u8(value, 1, 0))
+}
+
+// The read that begins at a place of a run. A place past the end has none.
+pub fn next_read(run: &[u8], at: usize) -> NextRead
+    ensures { λ r. ⌜ r ≡ nextRead (now (run .entry)) at ⌝ }
+{
+    match next_field(run, at) {
+        NextField::End => NextRead::End,
+        NextField::Cut => NextRead::Broken,
+        NextField::Whole(f) => {
+            if (f.tag == READ) & (2 <= f.length) {
+                let flags = read_flags(run, f);
+                let read = SourceRead {
+                    flags,
+                    offset: f.offset + 2,
+                    length: f.length - 2,
+                };
+                return NextRead::Read {
+                    read,
+                    next: f.offset + f.length,
+                };
+            }
+            NextRead::Broken
+        }
+    }
+}
+
+// The reads of a run.
+pub fn read_list(run: &[u8]) -> ReadList
+    ensures { λ r. ⌜ ListedAs (now (run .entry)) r ⌝ }
+{
+    let mut reads = [NO_READ; 1024];
+    let mut count = 0;
+    let mut at = 0;
+    loop {
+        match next_read(run, at) {
+            NextRead::End => {
+                return ReadList {
+                    broken: false,
+                    count,
+                    reads,
+                }
+            }
+            NextRead::Broken => {
+                return ReadList {
+                    broken: true,
+                    count,
+                    reads,
+                }
+            }
+            NextRead::Read { read, next } => {
+                if count < MAX_READS {
+                    reads[count] = read;
+                }
+                count += 1;
+                at = next;
+            }
+        }
+    }
+}

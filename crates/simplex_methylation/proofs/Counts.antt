@@ -1,0 +1,145 @@
+-- Laws of what is written to a lent output, place by place, and of counts that one more read is added to.
+--     put-front, put-rest        a written place, and one past those
+--     table-front, table-rest    the same of a table
+--     ahead                      a loop that fills an output has not changed the place of its next store
+--     Adding                     the invariant of a loop that adds one more where a position is met: start, within, few, further, all-added
+--     fewer-places               positions that are not met need no store
+--     one-read-more              one more read, of counts that are a table
+-- Assumes nothing.
+use mathlib.Core.Path.{_≡_, refl, sym, ap, _∙_}
+use mathlib.Core.Bool.{Bool, true, false, cond}
+use mathlib.Core.List.{List, _++_}
+use Prim.Native.Nat.{ℕ, _+_, _-_, _<_, _≤_}
+use native.Mathlib.Omega.{arith}
+use borrow.Author.Tests.{ltb-true, ltb-false}
+use lib.Dec.{ltb}
+use lib.ListN.{length, getD, set, take, drop, length-take, List·getD-append}
+use lib.Seq.{getD-append-add, getD-drop, ext-getD}
+use Rattle.lists.specs.Output.{put}
+use Rattle.lists.specs.Table.{tabulate}
+use Rattle.lists.proofs.Output.{length-put, Filling, begin, same, fits, next, done}
+use Rattle.lists.proofs.Table.{length-tabulate, getD-tabulate}
+use Rattle.simplex_methylation.specs.Simplex.{added, Below}
+
+-- general: for crates/lists
+module _ {A : Type 0} (d : A) where
+  pub put-front : (xs out : List A) (i : ℕ) → i < length xs → getD (put xs out) i d ≡ getD xs i d
+  unfolding put
+  put-front xs out i h = List·getD-append xs (drop (length xs) out) d i h
+
+  pub put-rest : (xs out : List A) (i : ℕ) → length xs ≤ i → getD (put xs out) i d ≡ getD out i d
+  unfolding put
+  put-rest xs out i h =
+      let k = i - length xs in
+      let at : i ≡ length xs + k = omega arith in
+      ap (λ (j : ℕ). getD (xs ++ drop (length xs) out) j d) at
+      ∙ getD-append-add xs (drop (length xs) out) k d
+      ∙ getD-drop (length xs) out k d
+      ∙ ap (λ (j : ℕ). getD out j d) (sym at)
+
+  module _ (n : ℕ) (f : ℕ → A) (out : List A) (i : ℕ) where
+    pub table-front : i < n → getD (put (tabulate n f) out) i d ≡ f i
+    table-front h = put-front (tabulate n f) out i (omega (arith, length-tabulate n f)) ∙ getD-tabulate n f i d h
+
+    pub table-rest : n ≤ i → getD (put (tabulate n f) out) i d ≡ getD out i d
+    table-rest h = put-rest (tabulate n f) out i (omega (arith, length-tabulate n f))
+
+  pub ahead : {n i : ℕ} {xs before now : List A} → Filling n xs before i now → getD now i d ≡ getD before i d
+  ahead {n} {i} {xs} {before} f = ap (λ (l : List A). getD l i d) (f .so-far) ∙ put-rest (take i xs) before i (omega (arith, length-take i xs))
+
+-- A place is below n, or not.
+pub by-place : (i n : ℕ) {P : Type 0} → (i < n → P) → (n ≤ i → P) → P
+by-place i n {P} below above = go (ltb i n) refl
+  where
+    go : (b : Bool) → ltb i n ≡ b → P
+    go true e = below (ltb-true i n e)
+    go false e = above (ltb-false i n e)
+
+module _ {A : Type 0} (d : A) where
+  -- Two written tables are the same where each place is.
+  same-tables : (n m : ℕ) (f g : ℕ → A) (xs ys : List A) → n ≤ length xs → m ≤ length ys → length xs ≡ length ys
+      → ((i : ℕ) → getD (put (tabulate n f) xs) i d ≡ getD (put (tabulate m g) ys) i d) → put (tabulate n f) xs ≡ put (tabulate m g) ys
+  same-tables n m f g xs ys h k e each =
+      let left = length-put (tabulate n f) xs (omega (arith, length-tabulate n f)) in
+      let right = length-put (tabulate m g) ys (omega (arith, length-tabulate m g)) in
+      ext-getD d _ _ (left ∙ e ∙ sym right) (λ i l. each i)
+
+-- One more at a position that is met.
+abbrev more : (ℕ → Bool) → (ℕ → ℕ) → ℕ → ℕ
+more met c i = cond (met i) (c i + 1) (c i)
+
+-- The first i of n counts, each below 1,024, are added to.
+pub record Adding (n : ℕ) (met : ℕ → Bool) (before : List ℕ) (i : ℕ) (now : List ℕ) : Type 0 where
+  pub filling : Filling n (added n met before) before i now
+  pub below : Below 1024 n before
+
+pub start : {n : ℕ} (met : ℕ → Bool) {before : List ℕ} → (n ≤ length before) × Below 1024 n before → Adding n met before 0 before
+unfolding added
+start {n} met h = record { filling = begin (length-tabulate n _) (h .0); below = h .1 }
+
+module _ {n : ℕ} {met : ℕ → Bool} {before : List ℕ} {i : ℕ} {now : List ℕ} (a : Adding n met before i now) where
+  pub as-long : length now ≡ length before
+  as-long = same (a .filling)
+
+  pub within : i < n → i < length now
+  within l = fits (a .filling) l
+
+  pub few : i < n → getD now i 0 < 1024
+  few l = omega (arith, ahead 0 (a .filling), a .below i l)
+
+  pub further : i < n → {b : Bool} {v : ℕ} → b ≡ met i → v ≡ cond b (getD now i 0 + 1) (getD now i 0) → Adding n met before (i + 1) (set now i v)
+  unfolding added
+  further l e f = record {
+    filling = next 0 _ (a .filling) l (rw (f, e, ahead 0 (a .filling)) (sym (getD-tabulate n _ i 0 l)));
+    below = a .below;
+  }
+
+  pub all-added : n ≤ i → now ≡ put (added n met before) before
+  all-added l = done (a .filling) l
+
+pub fewer-places :
+    {places n : ℕ} (met met′ : ℕ → Bool) (xs : List ℕ)
+    → places ≤ n
+    → n ≤ length xs
+    → ((i : ℕ) → i < places → met i ≡ met′ i)
+    → ((i : ℕ) → places ≤ i → i < n → met′ i ≡ false)
+    → put (added places met xs) xs ≡ put (added n met′ xs) xs
+unfolding added
+fewer-places {places} {n} met met′ xs h k same past = same-tables 0 places n f g xs xs (omega arith) k refl each
+  where
+    f : ℕ → ℕ
+    f = more met (λ i. getD xs i 0)
+
+    g : ℕ → ℕ
+    g = more met′ (λ i. getD xs i 0)
+
+    each : (i : ℕ) → getD (put (tabulate places f) xs) i 0 ≡ getD (put (tabulate n g) xs) i 0
+    each i =
+        by-place i places
+        (λ l. table-front 0 places f xs i l ∙ ap (λ (b : Bool). cond b (getD xs i 0 + 1) (getD xs i 0)) (same i l) ∙ sym (table-front 0 n g xs i (omega arith)))
+        (λ o. table-rest 0 places f xs i o ∙ by-place i n
+        (λ l. ap (λ (b : Bool). cond b (getD xs i 0 + 1) (getD xs i 0)) (sym (past i o l)) ∙ sym (table-front 0 n g xs i l))
+        (λ l. sym (table-rest 0 n g xs i l)))
+
+pub one-read-more :
+    (n : ℕ) (met : ℕ → Bool) (c : ℕ → ℕ) (out : List ℕ) {xs : List ℕ}
+    → n ≤ length out
+    → xs ≡ put (tabulate n c) out
+    → put (added n met xs) xs ≡ put (tabulate n (more met c)) out
+unfolding added
+one-read-more n met c out {xs} h e = same-tables 0 n n f (more met c) xs out (omega (arith, size)) h size each
+  where
+    size : length xs ≡ length out
+    size = ap length e ∙ length-put (tabulate n c) out (omega (arith, length-tabulate n c))
+
+    f : ℕ → ℕ
+    f = more met (λ i. getD xs i 0)
+
+    was : (i : ℕ) → i < n → getD xs i 0 ≡ c i
+    was i l = ap (λ (l : List ℕ). getD l i 0) e ∙ table-front 0 n c out i l
+
+    each : (i : ℕ) → getD (put (tabulate n f) xs) i 0 ≡ getD (put (tabulate n (more met c)) out) i 0
+    each i =
+        by-place i n
+        (λ l. table-front 0 n f xs i l ∙ ap (λ (v : ℕ). cond (met i) (v + 1) v) (was i l) ∙ sym (table-front 0 n (more met c) out i l))
+        (λ o. table-rest 0 n f xs i o ∙ ap (λ (l : List ℕ). getD l i 0) e ∙ table-rest 0 n c out i o ∙ sym (table-rest 0 n (more met c) out i o))

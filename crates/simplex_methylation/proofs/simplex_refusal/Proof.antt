@@ -1,0 +1,12 @@
+-- `simplex_methylation::simplex_refusal` meets its contract: its tests are the faults, in the table's order. Assumes nothing.
+use Rattle.refusals.proofs.Refusal.{in-order}
+use Rattle.simplex_methylation.specs.Simplex.{simplexFaults}
+use Rattle.simplex_methylation.proofs.simplex_refusal.Statement.{statement}
+use Rattle.simplex_methylation.proofs.simplex_refusal.Tie as tie
+
+returns : tie.Need-returns
+unfolding simplexFaults
+returns c = in-order _ tt (cc)
+
+pub simplex-refusal-spec : {M : Type 1} → statement M
+simplex-refusal-spec = tie.close (tie.spec (λ c κs. tt) (λ c κs. tt) (λ c κs. tt) (λ c κs. tt) returns)
