@@ -1,28 +1,22 @@
 // The consensus gate, from duplex_caller.rs: whether a record's strands were covered deeply enough. Uses lists, refusals, numbers,
 // duplex_min_reads and duplex_reads.
 ghost use mathlib.Core.Path.{_≡_};
-ghost use Prim.Native.Nat.{min};
 ghost use Rattle.duplex_gate.specs.ConsensusGate.{largestWithin, consensusGate};
 use duplex_min_reads::Validated;
 use duplex_min_reads::reaches;
 use duplex_min_reads::validate_min_reads;
 use duplex_reads::Gate;
+use lists::smaller;
 use numbers::max_u16;
 use refusals::MAX_POSITIONS;
 use refusals::TOO_LONG;
 use refusals::refuse_if;
 
-fn shorter(a: usize, b: usize) -> usize
-    ensures { λ r. ⌜ r ≡ min a b ⌝ }
-{
-    if a < b { a } else { b }
-}
-
 // The largest of a strand's depths within the record's length, uncapped; 0 where there are none.
 fn largest_within(positions: usize, depths: &[u16]) -> u16
     ensures { λ r. ⌜ r ≡ largestWithin positions (now (depths .entry)) ⌝ }
 {
-    let n = shorter(positions, depths.len());
+    let n = smaller(positions, depths.len());
     let mut found = 0;
     let mut i = 0;
     while i < n {

@@ -17,7 +17,8 @@ ghost use mathlib.Core.Path.{_≡_};
 ghost use Prim.Native.Nat.{min};
 ghost use Rattle.lists.specs.Part.{leaves};
 
-pub(crate) fn smaller(a: usize, b: usize) -> usize
+// The smaller of two lengths.
+pub fn smaller(a: usize, b: usize) -> usize
     ensures { λ r. ⌜ r ≡ min a b ⌝ }
 {
     if a < b { a } else { b }

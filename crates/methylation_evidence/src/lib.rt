@@ -2,7 +2,7 @@
 // informative, cut to a length, and as the count tags hold them. The pattern takes no part. Uses lists, refusals, numbers,
 // methylation and vanilla_caller.
 ghost use mathlib.Core.Path.{_≡_};
-ghost use Prim.Native.Nat.{_≤_, min};
+ghost use Prim.Native.Nat.{_≤_};
 ghost use mathlib.Core.List.{map};
 ghost use lib.ListN.{length, take};
 ghost use Rattle.lists.specs.Output.{put, answer, after};
@@ -14,6 +14,7 @@ ghost use Rattle.methylation_evidence.specs.Gate.{gated, gateFaults, Gat
 ghost use Rattle.methylation_evidence.specs.Truncate.{truncated, truncateFaults, TruncatedAs};
 use lists::at_u32;
 use lists::copy_u32;
+use lists::smaller;
 use methylation::evidence_if;
 use numbers::min_u32;
 use numbers::saturating_add_u32;
@@ -109,12 +110,6 @@ pub fn gate_to_informative(
     }
     gate(marks, unconverted, converted);
     Positions::Written(n)
-}
-
-fn smaller(a: usize, b: usize) -> usize
-    ensures { λ r. ⌜ r ≡ min a b ⌝ }
-{
-    if a < b { a } else { b }
 }
 
 // Writes as many marks as there is room for, as 0 or 1, to the front of out.

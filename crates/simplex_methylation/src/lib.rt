@@ -14,6 +14,7 @@ ghost use Rattle.simplex_methylation.specs.declared.SimplexMethylation.t
 use dna::to_ascii_uppercase;
 use lists::at_u8;
 use lists::part_leaves;
+use lists::smaller;
 use methylation::ConversionPattern;
 use methylation::PatternBases;
 use refusals::MAX_POSITIONS;
@@ -29,12 +30,6 @@ pub enum SimplexMethylation {
     Refused(u8),
     // So many positions of each output are written.
     Written(usize),
-}
-
-fn smaller(a: usize, b: usize) -> usize
-    ensures { λ r. ⌜ r ≡ min a b ⌝ }
-{
-    if a < b { a } else { b }
 }
 
 // Whether a base is a capital letter, or its lower case.

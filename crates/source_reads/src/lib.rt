@@ -3,7 +3,6 @@
 ghost use mathlib.Core.Path.{_≡_};
 ghost use mathlib.Core.Bool.{_&&_, _||_};
 ghost use mathlib.Core.List.{[], _∷_};
-ghost use Prim.Native.Nat.{min};
 ghost use Rattle.numbers.specs.Numbers.{smallest};
 ghost use Rattle.duplex_position.specs.Combination.{uncalled};
 ghost use Rattle.source_reads.specs.Bases.{unmaskedAt, Within, basesErrors};
@@ -15,6 +14,7 @@ use flags::LAST_SEGMENT;
 use flags::is_set;
 use lists::part_leaves;
 use lists::part_u8;
+use lists::smaller;
 use numbers::saturating_add_u16;
 
 // A read: its flags, and where its bases are in a byte buffer.
@@ -53,12 +53,6 @@ pub fn list_leaves(listed: bool, reads: &[SourceRead], size: usize) -> bool
         i += 1;
     }
     met
-}
-
-fn smaller(a: usize, b: usize) -> usize
-    ensures { λ r. ⌜ r ≡ min a b ⌝ }
-{
-    if a < b { a } else { b }
 }
 
 // As many positions as are asked for, and no more than each array has.

@@ -42,7 +42,7 @@ largest-within-spec =
     Inv-loop
     μ-loop
     (λ c κs. tt)
-    (λ c. (c .shorter .ensures, omega arith, refl))
+    (λ c. (c .smaller .ensures, omega arith, refl))
     (λ c. omega arith)
     (λ c. omega arith)
     (λ c κs. tt)
