@@ -2,73 +2,107 @@
 // errors, and what a source read should show. Uses dna, methylation, duplex_molecule, duplex_position and duplex_errors.
 ghost use mathlib.Core.Path.{_≡_};
 ghost use mathlib.Core.Bool.{cond};
-ghost use Rattle.duplex_call.specs.Annotated.{carriedByA, byCall, combined, estimatedUncalled, estimated, expected};
-ghost use Rattle.duplex_molecule.specs.Molecule.{callAt, isCall, samePattern};
-ghost use Rattle.duplex_molecule.specs.declared.MoleculeCall.the-variants.{Call};
+ghost use Rattle.duplex_call.specs.Annotated.{combined, estimatedUncalled, estimated, expected};
+ghost use Rattle.duplex_call.specs.Tests.{isB, someStrand, ofPattern, atCall};
+ghost use Rattle.duplex_molecule.specs.Molecule.{callAt, isCall, isCallOf};
+ghost use Rattle.methylation.specs.declared.Annotation.the-variants.{Of};
 ghost use Rattle.methylation.specs.declared.ConversionPattern.the-variants.{CToT, GToA};
 use dna::eq_ignore_ascii_case;
+use dna::to_ascii_uppercase;
 use duplex_errors::estimate_agreeing;
 use duplex_errors::estimate_disagreeing;
 use duplex_molecule::CtInput;
-use duplex_molecule::MoleculeCall;
-use duplex_molecule::call_at;
 use duplex_position::Position;
 use duplex_position::combine_bases;
 use duplex_position::combine_called;
+use methylation::Annotation;
 use methylation::ConversionPattern;
 
-// Whether strand A is the informative one of a call of this pattern.
-fn carried_by_a(ct: CtInput, pattern: ConversionPattern) -> bool
-    ensures { λ r. ⌜ r ≡ carriedByA ct pattern ⌝ }
+// These functions choose between values and never between ways through the code, so that the loops over positions run on several
+// positions at once.
+fn pick(first: bool, a: u8, b: u8) -> u8
+    ensures { λ r. ⌜ r ≡ cond first a b ⌝ }
 {
-    match ct {
-        CtInput::Neither => false,
-        CtInput::IsA => match pattern {
-            ConversionPattern::CToT => true,
-            ConversionPattern::GToA => false,
-        },
-        CtInput::IsB => match pattern {
-            ConversionPattern::CToT => false,
-            ConversionPattern::GToA => true,
-        },
+    if first { a } else { b }
+}
+
+fn pick_position(first: bool, a: Position, b: Position) -> Position
+    ensures { λ r. ⌜ r ≡ cond first a b ⌝ }
+{
+    Position {
+        base: pick(first, a.base, b.base),
+        qual: pick(first, a.qual, b.qual),
+        raw: pick(first, a.raw, b.raw),
     }
 }
 
-// Base and quality at a call.
+fn ct_is_b(ct: CtInput) -> bool
+    ensures { λ r. ⌜ r ≡ isB ct ⌝ }
+{
+    match ct {
+        CtInput::Neither => false,
+        CtInput::IsA => false,
+        CtInput::IsB => true,
+    }
+}
+
+fn can_call(ct: CtInput) -> bool
+    ensures { λ r. ⌜ r ≡ someStrand ct ⌝ }
+{
+    match ct {
+        CtInput::Neither => false,
+        CtInput::IsA => true,
+        CtInput::IsB => true,
+    }
+}
+
+// Whether there is a C-to-T call.
+fn is_c_to_t_call(ct: CtInput, a_base: u8, b_base: u8) -> bool
+    ensures { λ r. ⌜ r ≡ isCallOf (Of CToT) (callAt ct «a_base» «b_base») ⌝ }
+{
+    let is_b = ct_is_b(ct);
+    let shown = to_ascii_uppercase(pick(is_b, b_base, a_base));
+    let confirming = to_ascii_uppercase(pick(is_b, a_base, b_base));
+    can_call(ct) & ((confirming == b'C') & ((shown == b'C') | (shown == b'T')))
+}
+
+// Whether there is a G-to-A call.
+fn is_g_to_a_call(ct: CtInput, a_base: u8, b_base: u8) -> bool
+    ensures { λ r. ⌜ r ≡ isCallOf (Of GToA) (callAt ct «a_base» «b_base») ⌝ }
+{
+    let is_b = ct_is_b(ct);
+    let confirming = to_ascii_uppercase(pick(is_b, b_base, a_base));
+    let shown = to_ascii_uppercase(pick(is_b, a_base, b_base));
+    can_call(ct) & ((confirming == b'G') & ((shown == b'G') | (shown == b'A')))
+}
+
+// Base and quality at a call, of pattern C to T or else G to A.
 fn combine_at_call(
-    ct: CtInput,
+    c_to_t: bool,
+    is_b: bool,
     a_base: u8,
     a_qual: u8,
     a_mark: u8,
     b_base: u8,
     b_qual: u8,
     b_mark: u8,
-    pattern: ConversionPattern,
-    call: u8,
-    confirmed: u8,
 ) -> Position
-    ensures { λ r. ⌜ r ≡ byCall ct «a_base» «a_qual» «a_mark» «b_base» «b_qual» «b_mark» (Call pattern call confirmed) ⌝ }
+    ensures { λ r. ⌜ r ≡ atCall «c_to_t» «is_b» «a_base» «a_qual» «a_mark» «b_base» «b_qual» «b_mark» ⌝ }
 {
-    let converted = eq_ignore_ascii_case(call, pattern.bases().converted);
-    if carried_by_a(ct, pattern) {
-        return combine_called(
-            a_base,
-            a_qual,
-            b_base,
-            b_qual,
-            confirmed,
-            converted & (a_mark == 0),
-            b_qual,
-        );
-    }
+    let by_b = (c_to_t & is_b) | !(c_to_t | is_b);
+    let shown = pick(by_b, b_base, a_base);
+    let mark = pick(by_b, b_mark, a_mark);
+    let confirming_qual = pick(by_b, a_qual, b_qual);
+    let converted = pick(c_to_t, b'T', b'A');
+    let confirmed = pick(c_to_t, b'C', b'G');
     combine_called(
         a_base,
         a_qual,
         b_base,
         b_qual,
         confirmed,
-        converted & (b_mark == 0),
-        a_qual,
+        eq_ignore_ascii_case(shown, converted) & (mark == 0),
+        confirming_qual,
     )
 }
 
@@ -84,34 +118,57 @@ pub fn combine_annotated(
 ) -> Position
     ensures { λ r. ⌜ r ≡ combined ct «a_base» «a_qual» «a_mark» «b_base» «b_qual» «b_mark» ⌝ }
 {
-    match call_at(ct, a_base, b_base) {
-        MoleculeCall::NoCall => combine_bases(a_base, a_qual, b_base, b_qual),
-        MoleculeCall::Call {
-            pattern,
-            call,
-            confirmed,
-        } => combine_at_call(
-            ct,
-            a_base,
-            a_qual,
-            a_mark,
-            b_base,
-            b_qual,
-            b_mark,
-            pattern,
-            call,
-            confirmed,
-        ),
-    }
+    let c_to_t = is_c_to_t_call(ct, a_base, b_base);
+    let g_to_a = is_g_to_a_call(ct, a_base, b_base);
+    let at_call = combine_at_call(
+        c_to_t,
+        ct_is_b(ct),
+        a_base,
+        a_qual,
+        a_mark,
+        b_base,
+        b_qual,
+        b_mark,
+    );
+    pick_position(
+        c_to_t | g_to_a,
+        at_call,
+        combine_bases(a_base, a_qual, b_base, b_qual),
+    )
 }
 
 fn is_call(ct: CtInput, a_base: u8, b_base: u8) -> bool
     ensures { λ r. ⌜ r ≡ isCall (callAt ct «a_base» «b_base») ⌝ }
 {
-    match call_at(ct, a_base, b_base) {
-        MoleculeCall::NoCall => false,
-        MoleculeCall::Call { .. } => true,
+    is_c_to_t_call(ct, a_base, b_base) | is_g_to_a_call(ct, a_base, b_base)
+}
+
+fn is_of(pattern: ConversionPattern, annotation: Annotation) -> bool
+    ensures { λ r. ⌜ r ≡ ofPattern pattern annotation ⌝ }
+{
+    match annotation {
+        Annotation::Absent => false,
+        Annotation::Of(own) => match pattern {
+            ConversionPattern::CToT => match own {
+                ConversionPattern::CToT => true,
+                ConversionPattern::GToA => false,
+            },
+            ConversionPattern::GToA => match own {
+                ConversionPattern::CToT => false,
+                ConversionPattern::GToA => true,
+            },
+        },
     }
+}
+
+// Whether a strand of this annotation keeps its evidence: it is the informative one of a call.
+pub fn keeps_evidence(annotation: Annotation, ct: CtInput, a_base: u8, b_base: u8) -> bool
+    ensures { λ r. ⌜ r ≡ isCallOf annotation (callAt ct «a_base» «b_base») ⌝ }
+{
+    let c_to_t = is_c_to_t_call(ct, a_base, b_base);
+    let g_to_a = is_g_to_a_call(ct, a_base, b_base);
+    (is_of(ConversionPattern::CToT, annotation) & c_to_t)
+        | (is_of(ConversionPattern::GToA, annotation) & g_to_a)
 }
 
 // The errors' estimate where there is no call.
@@ -165,26 +222,15 @@ pub fn estimate_errors(
     )
 }
 
-// What a read should show at a call: `last` says that it has the flag 0x80.
-fn shown_base(pattern: ConversionPattern, call: u8, confirmed: u8, last: bool) -> u8
-    ensures { λ r. ⌜ r ≡ cond (samePattern pattern (cond last GToA CToT)) call confirmed ⌝ }
-{
-    match pattern {
-        ConversionPattern::CToT => if last { confirmed } else { call },
-        ConversionPattern::GToA => if last { call } else { confirmed },
-    }
-}
-
-// What a source read should show at a position: the unmasked base, or at a call what its own strand should show.
+// What a source read should show at a position: the unmasked base, or at a call what its own strand should show. `last` says
+// that it has the flag 0x80.
 pub fn expected_base(ct: CtInput, a_base: u8, a_qual: u8, b_base: u8, b_qual: u8, last: bool) -> u8
     ensures { λ r. ⌜ r ≡ expected ct «a_base» «a_qual» «b_base» «b_qual» last ⌝ }
 {
-    match call_at(ct, a_base, b_base) {
-        MoleculeCall::NoCall => combine_bases(a_base, a_qual, b_base, b_qual).raw,
-        MoleculeCall::Call {
-            pattern,
-            call,
-            confirmed,
-        } => shown_base(pattern, call, confirmed, last),
-    }
+    let is_b = ct_is_b(ct);
+    let at_c = pick(last, b'C', pick(is_b, b_base, a_base));
+    let at_g = pick(last, pick(is_b, a_base, b_base), b'G');
+    let raw = combine_bases(a_base, a_qual, b_base, b_qual).raw;
+    let uncalled_or_g = pick(is_g_to_a_call(ct, a_base, b_base), at_g, raw);
+    pick(is_c_to_t_call(ct, a_base, b_base), at_c, uncalled_or_g)
 }

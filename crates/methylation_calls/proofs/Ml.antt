@@ -2,8 +2,8 @@
 --     ml-none      without counts it is 0
 --     ml-held, ml-part     it is held to 255, or the part itself
 -- Assumes nothing.
-use mathlib.Core.Path.{_≡_, refl, sym, ap, _∙_}
-use Prim.Native.Nat.{ℕ, _+_, _*_, _/_, _≤_, _<_, min}
+use mathlib.Core.Path.{_≡_}
+use Prim.Native.Nat.{ℕ, _+_, _*_, _/_, _≤_, _<_}
 use native.Mathlib.Omega.{arith}
 use native.Mathlib.Nat.{div-zero}
 use Rattle.methylation.specs.declared.MethylationMode.{MethylationMode}

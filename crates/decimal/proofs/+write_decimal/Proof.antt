@@ -1,11 +1,9 @@
 -- `decimal::write_decimal` meets its contract: the text of the tenth, and the last digit behind it. The measure is the number.
 -- Assumes nothing.
-use mathlib.Core.Path.{_≡_, refl, sym, ap, _∙_}
-use mathlib.Core.List.{List, [], _∷_, _++_}
+use mathlib.Core.Path.{sym, _∙_}
 use Prim.Native.Nat.{ℕ, _<_, _≤_, _/_, _%_}
 use native.Mathlib.Omega.{arith}
 use borrow.Author.Needs.{needs}
-use lib.ListN.{length, length-set}
 use Rattle.decimal.specs.Decimal.{digit, decimal}
 use Rattle.decimal.proofs.Decimal.{decimal-more, length-one, length-more, digits-within, put-first, put-more}
 use borrow.Fn.Kinds.{In}

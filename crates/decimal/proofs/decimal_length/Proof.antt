@@ -1,10 +1,10 @@
 -- `decimal::decimal_length` meets its contract: the digits of the rest and those counted are all digits, and one. Assumes nothing.
 use Prim.Native.Nat.{_+_, _≤_}
-use mathlib.Core.Path.{_≡_, refl, ap}
+use mathlib.Core.Path.{_≡_}
 use native.Mathlib.Omega.{arith}
 use lib.ListN.{length}
 use Rattle.decimal.specs.Decimal.{decimal}
-use Rattle.decimal.proofs.Decimal.{length-one, length-more, digits-within, few-digits}
+use Rattle.decimal.proofs.Decimal.{length-one, length-more}
 use Rattle.decimal.proofs.decimal_length.Statement.{statement}
 use Rattle.decimal.proofs.decimal_length.Tie as tie
 

@@ -1,6 +1,5 @@
 -- `decimal::write_digit` meets its contract: a store past the end changes nothing. Assumes nothing.
 use mathlib.Core.Path.{sym}
-use native.Mathlib.Omega.{arith}
 use borrow.Author.Needs.{needs}
 use lib.Seq.{set-out}
 use Rattle.decimal.proofs.write_digit.Statement.{statement}

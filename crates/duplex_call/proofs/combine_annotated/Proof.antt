@@ -1,16 +1,19 @@
--- `duplex_call::combine_annotated` meets its contract, by the call. Assumes nothing.
-use borrow.Author.Needs.{needs}
-use Rattle.duplex_call.specs.Annotated.{combined}
+-- `duplex_call::combine_annotated` meets its contract, by its tests. Assumes nothing.
+use Rattle.duplex_call.proofs.Calls.{position}
 use Rattle.duplex_call.proofs.combine_annotated.Statement.{statement}
 use Rattle.duplex_call.proofs.combine_annotated.Tie as tie
 
 returns : tie.Need-returns
-unfolding combined
-returns c = rw (← c .before .before .before .call-at .ensures, c .before .enum-told .given .1) (c .combine-bases .ensures)
-
-returns-2 : tie.Need-returns-2
-unfolding combined
-returns-2 c = rw (← c .before .before .before .before .call-at .ensures, c .before .before .pattern .given .1) (c .combine-at-call .ensures)
+returns c =
+    rw (
+      c .pick-position .ensures,
+      c .before .combine-bases .ensures,
+      c .before .before .combine-at-call .ensures,
+      c .before .before .before .ct-is-b .ensures,
+      c .before .before .before .before .is-g-to-a-call .ensures,
+      c .before .before .before .before .before .is-c-to-t-call .ensures,
+    )
+    (position _ _ _ _ _ _ _)
 
 pub combine-annotated-spec : {M : Type 1} → statement M
-combine-annotated-spec = tie.close (tie.spec (λ c κs. tt) (λ c. search needs) (λ c κs. tt) (λ c. search needs) (λ c κs. tt) returns returns-2)
+combine-annotated-spec = tie.close (tie.spec (λ c κs. tt) (λ c κs. tt) (λ c κs. tt) (λ c κs. tt) (λ c κs. tt) (λ c κs. tt) returns)

@@ -1,5 +1,5 @@
 -- `methylation_calls::ml_of` meets its contract: without counts, held to 255, or the part itself. Assumes nothing.
-use mathlib.Core.Path.{_≡_, ap, _∙_}
+use mathlib.Core.Path.{ap}
 use Prim.Native.Nat.{ℕ, _+_, _*_, _/_}
 use borrow.Author.Needs.{needs}
 use Rattle.methylation_calls.proofs.Ml.{ml-none, ml-held, ml-part}

@@ -1,0 +1,66 @@
+-- `duplex_arrays::fill_estimates` meets its contract: its loop fills the output with the estimates. Assumes nothing.
+use Prim.Native.Nat.{_-_}
+use mathlib.Core.List.{[]}
+use native.Mathlib.Omega.{arith}
+use Rattle.lists.proofs.Output.{Filling, begin, same, fits, next, done}
+use Rattle.vanilla_caller.specs.Strand.{arrays}
+use Rattle.duplex_molecule.specs.Molecule.{callAt}
+use Rattle.duplex_molecule.specs.declared.CtInput.the-variants.{Neither}
+use Rattle.duplex_call.specs.Annotated.{estimated}
+use Rattle.duplex_arrays.specs.Positions.{estimates}
+use Rattle.duplex_arrays.proofs.Positions.{estimates-length, estimate-at}
+use Rattle.duplex_arrays.proofs.fill_estimates.Statement.{statement}
+use Rattle.duplex_arrays.proofs.fill_estimates.Tie as tie
+
+abbrev Inv-loop : tie.InvT-loop
+Inv-loop a-bases a-quals a-depths a-errors b-bases b-quals b-depths b-errors n errors-out₀ i₀ errors-out i =
+    Filling n (estimates n Neither (arrays a-bases a-quals a-depths a-errors [] [] []) (arrays b-bases b-quals b-depths b-errors [] [] [])) errors-out₀ i errors-out
+
+abbrev μ-loop : tie.MeasureT-loop
+μ-loop a-bases a-quals a-depths a-errors b-bases b-quals b-depths b-errors n errors-out₀ i₀ errors-out i = n - i
+
+loop-holds : tie.Need-loop-holds Inv-loop μ-loop
+loop-holds c = begin (estimates-length _ _ _ _) (c .before .before .before .before .before .before .before .before .before .pre .1 .1)
+
+slice-write-errors-out : tie.Need-slice-write-errors-out Inv-loop μ-loop
+slice-write-errors-out c = fits (c .before .before .before .before .before .before .before .before .before .before .loop .inv) (c .before .before .before .before .before .before .before .before .before .loop-test .taken)
+
+loop-again : tie.Need-loop-again Inv-loop μ-loop
+unfolding estimated callAt
+loop-again c =
+    let more = c .before .before .before .before .before .before .before .before .before .loop-test .taken in
+    next 0 _ (c .before .before .before .before .before .before .before .before .before .before .loop .inv) more (estimate-at _ _ _ _ more (c .estimate-uncalled .ensures))
+
+same-length : tie.Need-same-length Inv-loop μ-loop
+same-length c = same (c .before .loop .inv)
+
+returns : tie.Need-returns Inv-loop μ-loop
+returns c = done (c .before .loop .inv) (c .loop-test .left)
+
+pub fill-estimates-spec : {M : Type 1} → statement M
+fill-estimates-spec =
+    tie.close
+    (tie.spec
+    Inv-loop
+    μ-loop
+    loop-holds
+    (λ c. omega arith)
+    (λ c. omega arith)
+    (λ c. omega arith)
+    (λ c. omega arith)
+    (λ c. omega arith)
+    (λ c. omega arith)
+    (λ c. omega arith)
+    (λ c. omega arith)
+    (λ c. omega arith)
+    (λ c. omega arith)
+    (λ c. omega arith)
+    (λ c. omega arith)
+    (λ c κs. tt)
+    (λ c. omega arith)
+    slice-write-errors-out
+    (λ c. omega arith)
+    (λ c. omega arith)
+    loop-again
+    same-length
+    returns)

@@ -1,0 +1,52 @@
+-- `duplex_evidence::write_evidence` meets its contract: nothing where an array is too short, else evidence of an annotated strand, or
+-- none. Assumes nothing.
+use mathlib.Core.Path.{sym, _∙_}
+use native.Mathlib.Nat.{le-trans}
+use borrow.Author.Needs.{needs}
+use Rattle.methylation.specs.Methylation.{isAnnotated}
+use Rattle.duplex_arrays.proofs.Short.{reached, nothing-written, all-written}
+use Rattle.duplex_evidence.specs.Kept.{keptMarks, keptUnconverted, keptConverted}
+use Rattle.duplex_evidence.proofs.Kept.{at-most, put-places}
+use Rattle.duplex_evidence.proofs.write_evidence.Statement.{statement}
+use Rattle.duplex_evidence.proofs.write_evidence.Tie as tie
+
+returns : tie.Need-returns
+returns c =
+    let short = sym (c .before .evidence-short .ensures) ∙ c .if1 .taken in
+    record { marksNow = nothing-written _ _ short; unconvertedNow = nothing-written _ _ short; convertedNow = nothing-written _ _ short }
+
+fill-evidence-requires : tie.Need-fill-evidence-requires
+fill-evidence-requires c κs =
+    let counted = c .before .before .before in
+    let tested = counted .before in
+    let all = reached _ _ _ _ (sym (tested .before .evidence-short .ensures) ∙ tested .if1 .left) .1 in
+    let few = at-most (isAnnotated (tested .before .before .before .before .before .before .before .before .before .args .annotation)) _ (counted .evidence-places .ensures) in
+    ((le-trans few (all .0), le-trans few (all .1 .0)), ((le-trans few (all .1 .1 .0), le-trans few (all .1 .1 .1 .0)), (le-trans few (all .1 .1 .1 .1 .0), le-trans few (all .1 .1 .1 .1 .1 .0), le-trans few (all .1 .1 .1 .1 .1 .1 .0))))
+
+returns-2 : tie.Need-returns-2
+unfolding keptMarks keptUnconverted keptConverted
+returns-2 c =
+    let filled = c .before .before .before .before .before .before in
+    let counted = filled .before .before .before .before in
+    let tested = counted .before in
+    let enough = sym (tested .before .evidence-short .ensures) ∙ tested .if1 .left in
+    let places = counted .evidence-places .ensures in
+    let written = filled .fill-evidence .ensures in
+    record {
+      marksNow = all-written _ _ enough (put-places _ _ _ _ places (written .0));
+      unconvertedNow = all-written _ _ enough (put-places _ _ _ _ places (written .1 .0));
+      convertedNow = all-written _ _ enough (put-places _ _ _ _ places (written .1 .1));
+    }
+
+pub write-evidence-spec : {M : Type 1} → statement M
+write-evidence-spec =
+    tie.close
+    (tie.spec
+    (λ c κs. tt)
+    returns
+    (λ c κs. tt)
+    fill-evidence-requires
+    (λ c. search needs)
+    (λ c. search needs)
+    (λ c. search needs)
+    returns-2)

@@ -1,0 +1,9 @@
+-- `duplex_kind::is_long` meets its contract: it computes the definition. Assumes nothing.
+use Rattle.duplex_kind.proofs.is_long.Statement.{statement}
+use Rattle.duplex_kind.proofs.is_long.Tie as tie
+
+returns : tie.Need-returns
+returns c = cc
+
+pub is-long-spec : {M : Type 1} → statement M
+is-long-spec = tie.close (tie.spec (λ c κs. tt) (λ c κs. tt) returns)

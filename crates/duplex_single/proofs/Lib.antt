@@ -1,0 +1,2 @@
+pub mod Gated
+pub mod Room

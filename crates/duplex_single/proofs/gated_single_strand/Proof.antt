@@ -1,0 +1,71 @@
+-- `duplex_single::gated_single_strand` meets its contract: refused by its number, or each output written, where it has room.
+-- Assumes nothing.
+use mathlib.Core.Path.{_∙_}
+use mathlib.Core.List.{[]}
+use Rattle.lists.proofs.Output.{answer-refused, answer-passed, put-equal, put-fitting}
+use Rattle.duplex_outputs.proofs.Outputs.{record-refused, record-passed}
+use Rattle.duplex_single.specs.declared.SingleStrandRecord.the-variants.{Refused}
+use Rattle.duplex_single.proofs.Gated.{put-none, marks-or-none, unconverted-or-none, converted-or-none}
+use Rattle.duplex_single.proofs.Room.{room}
+use Rattle.duplex_single.proofs.gated_single_strand.Statement.{statement}
+use Rattle.duplex_single.proofs.gated_single_strand.Tie as tie
+
+returns : tie.Need-returns
+returns c =
+    let number = c .before .single-refusal .ensures in
+    record { answered = answer-refused Refused _ number (c .if1 .taken); outputs = record-refused number (c .if1 .taken) }
+
+-- The test of the number, seen from where the places of evidence are counted.
+abbrev tested : tie.After-evidence-places → tie.Else1
+tested c = c .before .before .before .before .before .before .before .before .before .before .before .before .before
+
+gate-to-informative-requires : tie.Need-gate-to-informative-requires
+gate-to-informative-requires c κs =
+    let counted = c .before .before .before in
+    let r = room _ _ _ (tested counted .before .single-refusal .ensures) (tested counted .if1 .left) in
+    rw (counted .evidence-places .ensures) (r .marks, (r .unconverted, r .converted))
+
+returns-2 : tie.Need-returns-2
+returns-2 c =
+    let evidence = c .before .before .before .before .before .before in
+    let counted = evidence .before .before .before .before in
+    let errors = counted .before .before .before in
+    let quals = errors .before .before .before .before in
+    let bases = quals .before .before .before .before in
+    let number = tested counted .before .single-refusal .ensures in
+    let passed = tested counted .if1 .left in
+    let r = room _ _ _ number passed in
+    let places = counted .evidence-places .ensures in
+    record {
+      answered = answer-passed Refused _ number passed;
+      outputs = record-passed number passed (record {
+        bases = bases .copy-u8 .ensures ∙ put-fitting _ _ (r .bases);
+        quals = quals .copy-u82 .ensures ∙ put-fitting _ _ (r .quals);
+        errors = errors .copy-u16 .ensures ∙ put-fitting _ _ (r .errors);
+        marksA = evidence .gate-to-informative .ensures .0 ∙ put-equal _ (marks-or-none _ _ _ _ _ places);
+        unconvertedA = evidence .gate-to-informative .ensures .1 .0 ∙ put-equal _ (unconverted-or-none _ _ _ _ _ places);
+        convertedA = evidence .gate-to-informative .ensures .1 .1 ∙ put-equal _ (converted-or-none _ _ _ _ _ places);
+        marksB = put-none [];
+        unconvertedB = put-none [];
+        convertedB = put-none [];
+      });
+    }
+
+pub gated-single-strand-spec : {M : Type 1} → statement M
+gated-single-strand-spec =
+    tie.close
+    (tie.spec
+    (λ c κs. tt)
+    returns
+    (λ c κs. tt)
+    (λ c κs. tt)
+    (λ c κs. tt)
+    (λ c κs. tt)
+    gate-to-informative-requires
+    (λ c. c .before .before .before .before .before .before .before .before .before .before .before .before .before .before .before .before .before .before .before .before .bases-out .given)
+    (λ c. c .before .before .before .before .before .before .before .before .before .before .before .before .before .before .before .before .quals-out .given)
+    (λ c. c .before .before .before .before .before .before .before .before .before .before .before .before .errors-out .given)
+    (λ c. c .before .before .before .before .before .marks-out .given)
+    (λ c. c .before .before .before .unconverted-out .given)
+    (λ c. c .before .converted-out .given)
+    returns-2)

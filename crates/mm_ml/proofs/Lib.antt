@@ -1,0 +1,4 @@
+pub mod Walk
+pub mod Strand
+pub mod Group
+pub mod Refused
