@@ -1,6 +1,6 @@
 -- Readings that the definition shuts out, at numbers. Assumes nothing.
 use mathlib.Core.Path.{_≡_, refl}
-use mathlib.Core.List.{List, [], _∷_}
+use mathlib.Core.List.{[], _∷_}
 use Rattle.lists.specs.Output.{unless, answer}
 use Rattle.refusals.specs.Refusal.{refusal}
 use Rattle.duplex_min_reads.specs.MinReads.{faults, reachesAll}
