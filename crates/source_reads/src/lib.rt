@@ -18,6 +18,7 @@ use lists::smaller;
 use numbers::saturating_add_u16;
 
 // A read: its flags, and where its bases are in a byte buffer.
+#[repr(C)]
 pub struct SourceRead {
     pub flags: u16,
     pub offset: usize,
