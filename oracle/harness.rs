@@ -1,5 +1,6 @@
 // The Rust side of the comparison. The items of the Rust source come, word for word, from the files that ORACLE_ITEMS holds;
-// what they lean on and the source tree lacks is put here in its smallest form. calls.rs runs them on the vectors.
+// what they lean on and the source tree lacks is put here in its smallest form. calls.rs runs them on the vectors; built with
+// `--cfg linked`, the program is combine/program.rs, which links the library itself.
 #![allow(dead_code, unused_imports)]
 
 mod anyhow {
@@ -107,11 +108,14 @@ mod duplex_caller {
     items!("duplex_caller.rs");
 
     // Below this module, so that it sees what is private here.
-    pub mod calls {
+    pub mod program {
+        #[cfg(not(linked))]
         include!("calls.rs");
+        #[cfg(linked)]
+        include!("combine/program.rs");
     }
 }
 
 fn main() {
-    duplex_caller::calls::main();
+    duplex_caller::program::main();
 }
