@@ -1,0 +1,13 @@
+-- `duplex_texts::is_uneven` meets its contract: it computes the definition. Assumes nothing.
+use Rattle.duplex_texts.proofs.is_uneven.Statement.{statement}
+use Rattle.duplex_texts.proofs.is_uneven.Tie as tie
+
+returns : tie.Need-returns
+returns c = cc
+
+pub is-uneven-spec : {M : Type 1} → statement M
+is-uneven-spec =
+    tie.close
+    (tie.spec
+    (λ c κs. tt)
+    returns)

@@ -1,0 +1,3 @@
+pub mod Texts
+pub mod Outputs
+pub mod Parts
