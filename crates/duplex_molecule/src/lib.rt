@@ -1,7 +1,7 @@
 // One position of a two-strand molecule, from duplex_caller.rs: the error test and the methylation call. Uses dna and
 // methylation.
 ghost use mathlib.Core.Path.{_≡_};
-ghost use Rattle.duplex_molecule.specs.Molecule.{isError, moleculeCall, ctInput, callAt, samePattern, isCallOf};
+ghost use Rattle.duplex_molecule.specs.Molecule.{isError, moleculeCall, ctInput};
 use dna::NO_CALL_BASE;
 use dna::to_ascii_uppercase;
 use methylation::Annotation;
@@ -58,21 +58,6 @@ pub fn molecule_call(ct_base: u8, ga_base: u8) -> MoleculeCall
     MoleculeCall::NoCall
 }
 
-fn same_pattern(p: ConversionPattern, q: ConversionPattern) -> bool
-    ensures { λ r. ⌜ r ≡ samePattern p q ⌝ }
-{
-    match p {
-        ConversionPattern::CToT => match q {
-            ConversionPattern::CToT => true,
-            ConversionPattern::GToA => false,
-        },
-        ConversionPattern::GToA => match q {
-            ConversionPattern::CToT => false,
-            ConversionPattern::GToA => true,
-        },
-    }
-}
-
 // Which strand is the C-to-T one, of the annotations of A and B.
 pub fn ct_input(a: Annotation, b: Annotation) -> CtInput
     ensures { λ r. ⌜ r ≡ ctInput a b ⌝ }
@@ -91,30 +76,6 @@ pub fn ct_input(a: Annotation, b: Annotation) -> CtInput
                     ConversionPattern::GToA => CtInput::Neither,
                 },
             },
-        },
-    }
-}
-
-// The call that strand A's base and strand B's make.
-pub fn call_at(ct: CtInput, a_base: u8, b_base: u8) -> MoleculeCall
-    ensures { λ r. ⌜ r ≡ callAt ct «a_base» «b_base» ⌝ }
-{
-    match ct {
-        CtInput::Neither => MoleculeCall::NoCall,
-        CtInput::IsA => molecule_call(a_base, b_base),
-        CtInput::IsB => molecule_call(b_base, a_base),
-    }
-}
-
-// Whether a strand of this annotation is the informative one of a call.
-pub fn is_call_of(annotation: Annotation, call: MoleculeCall) -> bool
-    ensures { λ r. ⌜ r ≡ isCallOf annotation call ⌝ }
-{
-    match annotation {
-        Annotation::Absent => false,
-        Annotation::Of(p) => match call {
-            MoleculeCall::NoCall => false,
-            MoleculeCall::Call { pattern, .. } => same_pattern(p, pattern),
         },
     }
 }
