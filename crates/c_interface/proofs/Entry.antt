@@ -15,6 +15,7 @@ use borrow.Author.Tests.{ltb-false, ne-eqb}
 use lib.Dec.{T, eqb, ltb}
 use lib.ListN.{length, take, length-take}
 use Rattle.lists.proofs.Output.{answer-passed}
+use Rattle.byte_numbers.proofs.Bytes.{length-numbers}
 use Rattle.refusals.specs.Refusal.{Fault, _if_, order, sorted, refusal, refuseIf}
 use Rattle.refusals.proofs.Refusal.{listed, and-then}
 use Rattle.duplex_metrics.specs.Metrics.{Input, lengths, metricsFaults, metricsRefused, metricsOf}
@@ -25,7 +26,6 @@ use Rattle.duplex_metrics.specs.declared.MetricsRecord.{MetricsRecord}
 use Rattle.duplex_metrics.proofs.Few.{Few, few}
 use Rattle.duplex_metrics.proofs.HonestRates.{rate-number}
 use Rattle.c_interface.specs.Entry.{Narrow, Numbers, decoded, halves, entryFaults}
-use Rattle.c_interface.proofs.Bytes.{length-words16}
 
 -- A call that tests row 13, then another's faults, then row 12.
 wrapped :
@@ -67,7 +67,7 @@ joined broken n out {first} {inner} {second} e f g h = rw (h, g, e, refusal-is, 
 
 pub decoded-lengths : (x : Input) → lengths (decoded x) ≡ halves (lengths x)
 unfolding halves
-decoded-lengths x = simp length-words16
+decoded-lengths x = simp length-numbers
 
 pub clear : (broken : Bool) (n : MetricsLengths) (out : ℕ) {number : ℕ} → number ≡ refusal (entryFaults broken n out) → number ≡ 0 → (refusal (metricsFaults n) ≡ 0) × (40 ≤ out)
 clear broken n out e z =

@@ -8,13 +8,13 @@ use lib.Ieee.{binary32, toBits, isNan}
 use lib.ListN.{length}
 use Rattle.lists.specs.Output.{after}
 use Rattle.lists.specs.Part.{onlyIf}
+use Rattle.byte_numbers.specs.Bytes.{words16, oddCount, bytes32}
 use Rattle.refusals.specs.Refusal.{Fault, _if_, any, tooShort, refusal}
 use Rattle.duplex_metrics.specs.Metrics.{Input, input, lengths, metricsFaults, metricsOf}
 use Rattle.duplex_metrics.specs.declared.Metrics.{Metrics}
 use Rattle.duplex_metrics.specs.declared.Metrics.the-variants.{Refused, Of}
 use Rattle.duplex_metrics.specs.declared.MetricsLengths.{MetricsLengths}
 use Rattle.duplex_metrics.specs.declared.MetricsRecord.{MetricsRecord}
-use Rattle.c_interface.specs.Bytes.{words16, oddCount, bytes32}
 
 -- The arrays as bytes, of which an absent second strand's are not looked at.
 abbrev pub seen : Input → Input

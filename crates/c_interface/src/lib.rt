@@ -1,81 +1,30 @@
 // Entry points for C programs. An array of wider numbers is passed as its bytes, low byte first, and an answer is a refusal's
-// number, 0 for none. This crate owns the layout of the bytes and row 13; what a call answers is duplex_metrics's.
-// Uses lists, refusals and duplex_metrics.
+// number, 0 for none. This crate owns row 13; the layout of the bytes is byte_numbers's, what a call answers duplex_metrics's.
+// Uses lists, refusals, byte_numbers and duplex_metrics.
 ghost use mathlib.Core.Path.{_≡_};
 ghost use mathlib.Core.Bool.{false, not};
-ghost use Prim.Native.Nat.{_*_, _/_, _%_, _^_, _<_, _≤_};
+ghost use Prim.Native.Nat.{_≤_};
 ghost use lib.Dec.{eqb};
 ghost use lib.ListN.{length};
 ghost use Rattle.lists.specs.Output.{put};
+ghost use Rattle.byte_numbers.specs.Bytes.{oddCount, bytes32};
 ghost use Rattle.refusals.specs.Refusal.{refusal};
 ghost use Rattle.duplex_metrics.specs.Metrics.{input, metricsOf};
-ghost use Rattle.c_interface.specs.Bytes.{oddCount, word16, words16, byte32, bytes32};
 ghost use Rattle.c_interface.specs.Entry.{Narrow, Numbers, MetricsEntry, seen, decoded, oddCounts, halves, entryFaults, metricsWords};
+use byte_numbers::read_u16s;
+use byte_numbers::write_u32s;
 use duplex_metrics::Metrics;
 use duplex_metrics::MetricsLengths;
 use duplex_metrics::MetricsRecord;
 use duplex_metrics::counted;
 use duplex_metrics::duplex_metrics;
 use duplex_metrics::metrics_refusal;
-use lists::at_u8;
-use lists::at_u32;
 use refusals::BROKEN;
 use refusals::OUTPUT_TOO_SHORT;
 use refusals::refuse_if;
 
 // The bytes of a metrics record: ten numbers of four bytes.
 pub const METRICS_BYTES: usize = 40;
-
-fn word_at(bytes: &[u8], i: usize) -> u16
-    requires { ⌜ i < length (now bytes) / 2 ⌝ }
-    ensures { λ r. ⌜ r ≡ word16 (now (bytes .entry)) i ⌝ }
-{
-    let low = at_u8(bytes, 2 * i, 0) as u16;
-    let high = at_u8(bytes, 2 * i + 1, 0) as u16;
-    low + 256 * high
-}
-
-fn decode(bytes: &[u8], out: &mut [u16])
-    requires { ⌜ length (now bytes) / 2 ≤ length (now out) ⌝ }
-    ensures { λ _. ⌜ now (out .exit) ≡ put (words16 (now (bytes .entry))) (now (out .entry)) ⌝ }
-{
-    let n = bytes.len() / 2;
-    let mut i = 0;
-    while i < n {
-        out[i] = word_at(bytes, i);
-        i += 1;
-    }
-}
-
-// What a byte counts for, by its place in a number.
-fn weight(place: usize) -> u32
-    ensures { λ r. ⌜ (r ≡ 256 ^ (place % 4)) × (0 < r) ⌝ }
-{
-    match place % 4 {
-        0 => 1,
-        1 => 256,
-        2 => 65536,
-        _ => 16777216,
-    }
-}
-
-fn byte_at(words: &[u32], i: usize) -> u8
-    ensures { λ r. ⌜ r ≡ byte32 (now (words .entry)) i ⌝ }
-{
-    (at_u32(words, i / 4, 0) / weight(i) % 256) as u8
-}
-
-fn write_words(words: &[u32], out: &mut [u8])
-    requires { ⌜ 4 * length (now words) ≤ length (now out) ⌝ }
-    ensures { λ _. ⌜ now (out .exit) ≡ put (bytes32 (now (words .entry))) (now (out .entry)) ⌝ }
-{
-    let n = 4 * words.len();
-    let mut i = 0;
-    while i < n {
-        out[i] = byte_at(words, i);
-        i += 1;
-    }
-}
 
 fn write_record(r: MetricsRecord, out: &mut [u8])
     requires { ⌜ (Numbers r) × (40 ≤ length (now out)) ⌝ }
@@ -93,7 +42,7 @@ fn write_record(r: MetricsRecord, out: &mut [u8])
         f32::to_bits(r.cE),
         r.nc,
     ];
-    write_words(&words, out);
+    write_u32s(&words, out);
 }
 
 // The library's call on the decoded numbers.
@@ -114,11 +63,11 @@ fn decoded_metrics(
     let mut b = [0; 1024];
     let mut b_wrong = [0; 1024];
     let mut wrong = [0; 1024];
-    decode(a_depths, &mut a);
-    decode(a_errors, &mut a_wrong);
-    decode(b_depths, &mut b);
-    decode(b_errors, &mut b_wrong);
-    decode(errors, &mut wrong);
+    read_u16s(a_depths, &mut a);
+    read_u16s(a_errors, &mut a_wrong);
+    read_u16s(b_depths, &mut b);
+    read_u16s(b_errors, &mut b_wrong);
+    read_u16s(errors, &mut wrong);
     duplex_metrics(
         &a[0..a_depths.len() / 2],
         &a_wrong[0..a_errors.len() / 2],

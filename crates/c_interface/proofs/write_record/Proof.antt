@@ -1,12 +1,24 @@
 -- `c_interface::write_record` meets its contract: the record's ten numbers as bytes. Assumes nothing.
+use mathlib.Core.Path.{ap, _∙_}
+use mathlib.Core.List.{List}
+use Prim.Native.Nat.{ℕ}
 use borrow.Author.Needs.{needs}
+use native.Mathlib.Omega.{arith}
+use denote.Ref.{now}
+use Rattle.lists.specs.Output.{put}
+use Rattle.byte_numbers.specs.Bytes.{bytes32}
+use Rattle.byte_numbers.proofs.Groups.{all-fit}
 use Rattle.c_interface.specs.Entry.{metricsWords}
 use Rattle.c_interface.proofs.write_record.Statement.{statement}
 use Rattle.c_interface.proofs.write_record.Tie as tie
 
 returns : tie.Need-returns
 unfolding metricsWords
-returns c = c .before .before .write-words .ensures
+returns c =
+    let start = c .before .before .before .before .before .before .before .before .before in
+    let out = now (start .args .out) in
+    c .before .before .write-u32s .ensures
+    ∙ ap (λ (words : List ℕ). put (bytes32 words) out) (all-fit 4 (metricsWords (start .args .r)) out (omega arith) (start .pre .1))
 
 pub write-record-spec : {M : Type 1} → statement M
 write-record-spec =
