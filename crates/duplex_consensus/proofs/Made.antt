@@ -1,4 +1,5 @@
 -- What the call that makes the record and the count after it leave together.
+--     with-errors    a record with other errors
 --     counted-as     the record as it is promised, where the errors of a record of two strands with a list were left 0 and then
 --                    counted, and all others were left as they were
 -- Assumes nothing.
@@ -137,7 +138,7 @@ module _ (a b : Strand) (reads : List SourceRead) (bytes : List ℕ) (before : R
     errors false zero (Both n) z k s f q = as-made (q ∙ ap (countedPositions false) s) ∙ f
 
 -- All but the errors is what it was, whatever is counted.
-abbrev with-errors : List ℕ → RecordArrays → RecordArrays
+abbrev pub with-errors : List ℕ → RecordArrays → RecordArrays
 with-errors us r = recordOf (r .bases) (r .quals) us (r .marksA) (r .unconvertedA) (r .convertedA) (r .marksB) (r .unconvertedB) (r .convertedB)
 
 only-errors : (a b : Strand) (listed : Bool) (f g : ℕ → ℕ) (kind : DuplexConsensus) → with-errors (recordArrays a b listed g kind .errors) (recordArrays a b listed f kind) ≡ recordArrays a b listed g kind

@@ -14,7 +14,7 @@ use source_reads::count_read_errors;
 use source_reads::list_leaves;
 
 // How many positions of a record have their errors counted: all of a record of two strands with a list.
-fn counted_positions(made: DuplexConsensus, listed: bool) -> usize
+pub fn counted_positions(made: DuplexConsensus, listed: bool) -> usize
     ensures { λ r. ⌜ r ≡ countedPositions listed made ⌝ }
 {
     match made {

@@ -1,3 +1,3 @@
 pub mod Run
-pub mod Listing
+pub mod Counting
 pub mod Claims

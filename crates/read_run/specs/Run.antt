@@ -4,17 +4,15 @@ use Prim.Native.Nat.{ℕ, _+_, _*_, _-_}
 use mathlib.Core.Bool.{cond, not, _&&_}
 use mathlib.Core.List.{List, [], _∷_}
 use lib.Dec.{eqb, leb}
-use lib.ListN.{length, take, getD, replicate}
-use Rattle.lists.specs.Output.{put}
+use lib.ListN.{length, getD}
 use Rattle.fields.specs.Encoding.{Field, wholeFields, nextField, fieldAt}
 use Rattle.fields.specs.declared.NextField.{NextField}
 use Rattle.fields.specs.declared.NextField.the-variants.{End as End-field, Cut, Whole}
 use Rattle.molecule_fields.specs.Widths.{isRead, isRun}
-use Rattle.source_reads.specs.Reads.{none}
 use Rattle.source_reads.specs.declared.SourceRead.{SourceRead}
 use Rattle.read_run.specs.declared.NextRead.{NextRead}
 use Rattle.read_run.specs.declared.NextRead.the-variants.{End, Broken, Read}
-use Rattle.read_run.specs.declared.ReadList.{ReadList}
+use Rattle.read_run.specs.declared.ReadCount.{ReadCount}
 
 -- A number of two bytes, low byte first.
 abbrev pub word : ℕ → ℕ → ℕ
@@ -47,8 +45,7 @@ readAt run (Whole f) =
 unfoldable pub nextRead : List ℕ → ℕ → NextRead
 nextRead run at = readAt run (nextField run at)
 
--- What a list of the reads of a run is: whether the run is broken, how many reads it has, and the first 1,024 of them.
-pub record ListedAs (run : List ℕ) (r : ReadList) : Type 0 where
+-- What a count of the reads of a run is: whether the run is broken, and how many reads it has.
+pub record CountedAs (run : List ℕ) (r : ReadCount) : Type 0 where
   pub broken : r .broken ≡ not (isRun run)
   pub count : r .count ≡ length (readsOf run)
-  pub reads : r .reads ≡ put (take 1024 (readsOf run)) (replicate 1024 none)

@@ -3,14 +3,13 @@
 // Uses lists, refusals, fields, molecule_fields and source_reads.
 ghost use mathlib.Core.Path.{_≡_};
 ghost use Rattle.fields.specs.Encoding.{fieldAt};
-ghost use Rattle.read_run.specs.Run.{word, flagsOf, nextRead, ListedAs};
+ghost use Rattle.read_run.specs.Run.{word, flagsOf, nextRead, CountedAs};
 use fields::FieldAt;
 use fields::NextField;
 use fields::next_field;
 use lists::at_u8;
 use lists::part_u8;
 use molecule_fields::READ;
-use refusals::MAX_READS;
 use source_reads::SourceRead;
 
 pub enum NextRead {
@@ -22,19 +21,11 @@ pub enum NextRead {
     Read { read: SourceRead, next: usize },
 }
 
-// The reads of a run up to its end, or to where it is broken: how many there are, and the first 1,024 of them. The other places
-// hold reads without flags or bases.
-pub struct ReadList {
+// Whether a run is broken, and how many reads it has up to its end or to where it is broken.
+pub struct ReadCount {
     pub broken: bool,
     pub count: usize,
-    pub reads: [SourceRead; 1024],
 }
-
-const NO_READ: SourceRead = SourceRead {
-    flags: 0,
-    offset: 0,
-    length: 0,
-};
 
 fn word_of(low: u8, high: u8) -> u16
     ensures { λ r. ⌜ r ≡ word low high ⌝ }
@@ -75,33 +66,23 @@ pub fn next_read(run: &[u8], at: usize) -> NextRead
     }
 }
 
-// The reads of a run.
-pub fn read_list(run: &[u8]) -> ReadList
-    ensures { λ r. ⌜ ListedAs (now (run .entry)) r ⌝ }
+// How many reads a run has.
+pub fn count_reads(run: &[u8]) -> ReadCount
+    ensures { λ r. ⌜ CountedAs (now (run .entry)) r ⌝ }
 {
-    let mut reads = [NO_READ; 1024];
     let mut count = 0;
     let mut at = 0;
     loop {
         match next_read(run, at) {
-            NextRead::End => {
-                return ReadList {
-                    broken: false,
-                    count,
-                    reads,
-                }
-            }
-            NextRead::Broken => {
-                return ReadList {
-                    broken: true,
-                    count,
-                    reads,
-                }
-            }
-            NextRead::Read { read, next } => {
-                if count < MAX_READS {
-                    reads[count] = read;
-                }
+            NextRead::End => return ReadCount {
+                broken: false,
+                count,
+            },
+            NextRead::Broken => return ReadCount {
+                broken: true,
+                count,
+            },
+            NextRead::Read { read: _, next } => {
                 count += 1;
                 at = next;
             }

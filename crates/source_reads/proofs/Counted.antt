@@ -4,6 +4,7 @@
 --     one-called, one-uncalled     the same by what a call is given
 --     same                 as many numbers as there were
 --     none-yet, next, all  a loop over the reads: at its start, after one more turn, and at its end
+--     after-one            a count of one read, then of the others
 --     as-counted           from 0, with no more reads than 16 bits count: how many reads are errors
 --     few-errors           no more than there are reads
 -- Assumes nothing.
@@ -197,6 +198,17 @@ module _ (reads : List SourceRead) (bytes : List ℕ) (ct : CtInput) (positions 
       ∙ ap (λ (l : List ℕ). addedErrors n bytes expected (read ∷ []) l) e
       ∙ added-then n bytes expected (take i reads) (read ∷ []) errors room
       ∙ rw (add-one, take-suc reads i none h)
+
+  -- Of one read more, before them.
+  pub after-one : (read : SourceRead) → counted (read ∷ reads) ≡ countedErrors reads bytes ct positions basesA qualsA basesB qualsB (counted (read ∷ []))
+  unfolding countedErrors
+  after-one read =
+      let expected = expectedAt ct basesA qualsA basesB qualsB in
+      let one = addedErrors n bytes expected (read ∷ []) errors in
+      let as-long : length one ≡ length errors = added-same n bytes expected (read ∷ []) errors room in
+      let as-many : countedLength positions basesA qualsA basesB qualsB one ≡ n = rw as-long in
+      sym (added-then n bytes expected (read ∷ []) reads errors room)
+      ∙ ap (λ (m : ℕ). addedErrors m bytes expected reads one) (sym as-many)
 
   pub all : {i : ℕ} {zs : List ℕ} → length reads ≤ i → zs ≡ counted (take i reads) → zs ≡ counted reads
   all {i} h e = rw (take-all i reads h) at e

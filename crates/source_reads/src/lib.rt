@@ -132,7 +132,7 @@ fn add_called_errors(
 }
 
 // Adds the errors of a read at the first positions: as many as are asked for, and no more than each array has.
-fn add_read_errors(
+pub fn add_read_errors(
     read: SourceRead,
     bytes: &[u8],
     ct: CtInput,
