@@ -1,5 +1,22 @@
 // Document 01's examples of the calls, one line each: what is asked, and what is answered or left in the outputs. The file stdout
-// has what must be printed.
+// has what must be printed. Uses the crates whose calls it shows, io and libc.
+mod tags;
+mod text;
+
+use crate::tags::all_tags;
+use crate::text::annotation_text;
+use crate::text::bytes;
+use crate::text::colon;
+use crate::text::comma;
+use crate::text::counts;
+use crate::text::depths;
+use crate::text::end_line;
+use crate::text::hex;
+use crate::text::number;
+use crate::text::pattern_text;
+use crate::text::refused;
+use crate::text::text;
+use crate::text::word;
 use caller::ReadName;
 use duplex_metrics::Metrics;
 use duplex_min_reads::SingleStrand;
@@ -11,62 +28,15 @@ use duplex_partition::Partition;
 use duplex_reads::Gate;
 use duplex_reads::ReadType;
 use duplex_reads::SameStrand;
-use lists::at_u8;
-use lists::at_u16;
-use lists::at_u32;
 use methylation::Annotation;
 use methylation::ConversionPattern;
 use vanilla_caller::Depth;
 use vanilla_padded::PaddedStrand;
 
-const STDOUT: i32 = 1;
-
-fn text(s: &[u8]) {
-    io::write_all(STDOUT, s);
-}
-
-fn number(n: u64) {
-    text(b" ");
-    io::print_decimal(STDOUT, n);
-}
-
-fn end_line() {
-    text(b"\n");
-}
-
-fn refused(n: u8) {
-    text(b" refused");
-    number(n as u64);
-}
-
-fn bytes(xs: &[u8]) {
-    let mut i = 0;
-    while i < xs.len() {
-        number(at_u8(xs, i, 0) as u64);
-        i += 1;
-    }
-}
-
-fn depths(xs: &[u16]) {
-    let mut i = 0;
-    while i < xs.len() {
-        number(at_u16(xs, i, 0) as u64);
-        i += 1;
-    }
-}
-
-fn counts(xs: &[u32]) {
-    let mut i = 0;
-    while i < xs.len() {
-        number(at_u32(xs, i, 0) as u64);
-        i += 1;
-    }
-}
-
 fn thresholds(min_reads: &[u32]) {
     text(b"thresholds");
     counts(min_reads);
-    text(b":");
+    colon();
     match duplex_min_reads::validate_min_reads(min_reads) {
         Validated::Refused(n) => refused(n),
         Validated::Thresholds(t) => {
@@ -83,14 +53,8 @@ fn thresholds(min_reads: &[u32]) {
     end_line();
 }
 
-// The reads' MIs are parts of one buffer; each list has four places, filled with 9.
-fn partition(name: &[u8], reads: &[MiPart], buffer: &[u8]) {
-    let mut a_out = [9u16; 4];
-    let mut b_out = [9u16; 4];
-    text(b"partition ");
-    text(name);
-    text(b":");
-    match duplex_partition::partition_records_by_strand(reads, buffer, &mut a_out, &mut b_out) {
+fn partitioned(answer: Partition) {
+    match answer {
         Partition::Refused(n) => refused(n),
         Partition::Partitioned { a, b, base_mi } => {
             number(a as u64);
@@ -98,6 +62,21 @@ fn partition(name: &[u8], reads: &[MiPart], buffer: &[u8]) {
             base(base_mi);
         }
     }
+}
+
+// The reads' MIs are parts of one buffer; each list has four places, filled with 9.
+fn partition(name: &[u8], reads: &[MiPart], buffer: &[u8]) {
+    let mut a_out = [9u16; 4];
+    let mut b_out = [9u16; 4];
+    text(b"partition ");
+    text(name);
+    colon();
+    partitioned(duplex_partition::partition_records_by_strand(
+        reads,
+        buffer,
+        &mut a_out,
+        &mut b_out,
+    ));
     text(b", A");
     depths(&a_out);
     text(b", B");
@@ -118,7 +97,7 @@ fn base(base_mi: BaseMi) {
 fn gate(a_reads: &[u16], b_reads: &[u16], min_reads: &[u32]) {
     text(b"read gate");
     counts(min_reads);
-    text(b":");
+    colon();
     match duplex_reads::has_minimum_number_of_reads(a_reads, b_reads, min_reads) {
         Gate::Refused(n) => refused(n),
         Gate::Kept => text(b" kept"),
@@ -130,7 +109,7 @@ fn gate(a_reads: &[u16], b_reads: &[u16], min_reads: &[u32]) {
 fn same_strand(reads: &[u16]) {
     text(b"same strand");
     depths(reads);
-    text(b":");
+    colon();
     match duplex_reads::are_all_same_strand(reads) {
         SameStrand::Refused(n) => refused(n),
         SameStrand::Same => text(b" yes"),
@@ -146,8 +125,7 @@ fn read_name(prefix: &[u8], umi: &[u8]) {
         ReadName::Refused(n) => refused(n),
         ReadName::Written(n) => number(n as u64),
     }
-    text(b" ");
-    text(&out);
+    word(&out);
     end_line();
 }
 
@@ -155,7 +133,7 @@ fn call(ct_base: u8, ga_base: u8) {
     text(b"call");
     number(ct_base as u64);
     number(ga_base as u64);
-    text(b":");
+    colon();
     match duplex_molecule::molecule_call(ct_base, ga_base) {
         MoleculeCall::NoCall => text(b" none"),
         MoleculeCall::Call {
@@ -169,13 +147,6 @@ fn call(ct_base: u8, ga_base: u8) {
         }
     }
     end_line();
-}
-
-fn pattern_text(pattern: ConversionPattern) {
-    match pattern {
-        ConversionPattern::CToT => text(b" C to T"),
-        ConversionPattern::GToA => text(b" G to A"),
-    }
 }
 
 fn max_depth(strand: &[u16]) {
@@ -192,6 +163,13 @@ fn depth(d: Depth) {
     }
 }
 
+fn padded_answer(answer: PaddedStrand) {
+    match answer {
+        PaddedStrand::Refused(n) => refused(n),
+        PaddedStrand::Written(a) => annotation_text(a),
+    }
+}
+
 // ACG with qualities 30, 31, 32 and evidence, padded by default; each output has six places, filled with 9.
 fn padded(annotation: Annotation, strand_depths: &[u16], new_length: usize, left: bool) {
     let mut bases_out = *b"......";
@@ -203,8 +181,8 @@ fn padded(annotation: Annotation, strand_depths: &[u16], new_length: usize, left
     let mut converted_out = [9u32; 6];
     text(b"padded to");
     number(new_length as u64);
-    text(b":");
-    let answer = vanilla_padded::padded_default(
+    colon();
+    padded_answer(vanilla_padded::padded_default(
         b"ACG",
         &[30, 31, 32],
         strand_depths,
@@ -222,32 +200,21 @@ fn padded(annotation: Annotation, strand_depths: &[u16], new_length: usize, left
         &mut marks_out,
         &mut unconverted_out,
         &mut converted_out,
-    );
-    match answer {
-        PaddedStrand::Refused(n) => refused(n),
-        PaddedStrand::Written(a) => annotation_text(a),
-    }
-    text(b"\n ");
-    text(&bases_out);
+    ));
+    end_line();
+    word(&bases_out);
     bytes(&quals_out);
-    text(b",");
+    comma();
     depths(&depths_out);
-    text(b",");
+    comma();
     depths(&errors_out);
-    text(b",");
+    comma();
     bytes(&marks_out);
-    text(b",");
+    comma();
     counts(&unconverted_out);
-    text(b",");
+    comma();
     counts(&converted_out);
     end_line();
-}
-
-fn annotation_text(annotation: Annotation) {
-    match annotation {
-        Annotation::Absent => text(b" no annotation"),
-        Annotation::Of(pattern) => pattern_text(pattern),
-    }
 }
 
 fn flags() {
@@ -279,8 +246,8 @@ fn rate(errors: u32, depth: u32) {
     text(b"rate of");
     number(errors as u64);
     number(depth as u64);
-    text(b": ");
-    io::print_hex(STDOUT, rates::rate_bits(errors, depth) as u64, 8);
+    colon();
+    hex(rates::rate_bits(errors, depth));
     end_line();
 }
 
@@ -342,6 +309,9 @@ fn all_partitions() {
     partition(b"/A", &[[1, 0, 2]], b"/A");
     partition(b"A", &[[1, 0, 1]], b"A");
     partition(b"no reads", &[], b"");
+}
+
+fn all_partition_refusals() {
     partition(b"7 and none", &[[1, 0, 1], [0, 0, 0]], b"7");
     partition(b"none and 7", &[[0, 0, 0], [1, 0, 1]], b"7");
     partition(b"outside", &[[1, 1, 2], [0, 0, 0]], b"/A");
@@ -356,19 +326,27 @@ fn all_paddings() {
     padded(Annotation::Absent, &[4, 5, 6], 5, false);
     padded(Annotation::Of(ConversionPattern::GToA), &[4, 5, 6], 5, true);
     padded(Annotation::Of(ConversionPattern::CToT), &[4, 5, 6], 3, true);
+}
+
+fn all_padding_refusals() {
     padded(Annotation::Absent, &[4, 5], 2000, true);
     padded(Annotation::Absent, &[4, 5], 7, true);
     padded(Annotation::Absent, &[4, 5, 6], 2, false);
     padded(Annotation::Absent, &[4, 5, 6], 7, false);
 }
 
-fn main() {
-    all_thresholds();
-    all_partitions();
+fn all_gates() {
     gate(&[77, 77, 141], &[77], &[3, 2, 1]);
     gate(&[64, 77], &[77], &[3]);
     gate(&[], &[], &[0]);
     gate(&[77], &[77], &[1, 2]);
+}
+
+fn main() {
+    all_thresholds();
+    all_partitions();
+    all_partition_refusals();
+    all_gates();
     same_strand(&[]);
     same_strand(&[16, 83, 147]);
     same_strand(&[16, 77]);
@@ -381,7 +359,9 @@ fn main() {
     max_depth(&[5, 40000, 3]);
     max_depth(&[]);
     all_paddings();
+    all_padding_refusals();
     qualities();
     errors();
     all_rates();
+    all_tags();
 }

@@ -1,10 +1,10 @@
--- `examples::bytes` is safe and ends: the loop counts up to the length. Assumes nothing.
+-- `examples::text::bytes` is safe and ends: the loop counts up to the length. Assumes nothing.
 use Prim.Native.Nat.{_-_, _≤_}
 use native.Mathlib.Omega.{arith}
 use borrow.Author.Needs.{needs}
 use lib.ListN.{length}
-use Rattle.examples.proofs.bytes.Statement.{statement}
-use Rattle.examples.proofs.bytes.Tie as tie
+use Rattle.examples.proofs.text.bytes.Statement.{statement}
+use Rattle.examples.proofs.text.bytes.Tie as tie
 
 abbrev Inv-loop : tie.InvT-loop
 Inv-loop xs i₀ i = i ≤ length xs
