@@ -1,0 +1,18 @@
+-- Numbers below 2 to the power 32 as hexadecimal text in ASCII.
+use Prim.Native.Nat.{ℕ, _+_, _-_, _/_, _%_, _^_}
+use mathlib.Core.Bool.{cond}
+use mathlib.Core.List.{List}
+use lib.Dec.{ltb}
+use Rattle.lists.specs.Table.{tabulate}
+
+-- The character of a digit: that of 0 is 48, and that of 10 is 97, a lower-case a.
+abbrev pub hexDigit : ℕ → ℕ
+hexDigit d = cond (ltb d 10) (48 + d) (97 + (d - 10))
+
+-- The character at a place of the text, whose first digit counts for 16 to the power 7.
+unfoldable pub digitAt : ℕ → ℕ → ℕ
+digitAt n place = hexDigit (n / 16 ^ (7 - place) % 16)
+
+-- Eight digits, most significant first.
+unfoldable pub hexadecimal : ℕ → List ℕ
+hexadecimal n = tabulate 8 (digitAt n)

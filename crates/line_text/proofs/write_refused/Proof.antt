@@ -1,0 +1,29 @@
+-- `line_text::write_refused` meets its contract: the number between its texts. Assumes nothing.
+use native.Mathlib.Omega.{arith}
+use borrow.Author.Needs.{needs}
+use Rattle.text_output.proofs.Text.{then, same-size}
+use Rattle.decimal.proofs.Decimal.{few-digits}
+use Rattle.line_text.proofs.write_refused.Statement.{statement}
+use Rattle.line_text.proofs.write_refused.Tie as tie
+
+returns : tie.Need-returns
+returns c =
+    let third = c .before .before in
+    let second = third .before .before .before .before .before in
+    let first = second .before .before .before .before in
+    ((then (then (first .write-text .ensures) (second .write-number .ensures)) (third .write-text2 .ensures)) .written, few-digits 2 (first .before .before .before .before .args .number) (omega arith))
+
+same-length : tie.Need-same-length
+same-length c = same-size (returns c .0)
+
+pub write-refused-spec : {M : Type 1} → statement M
+write-refused-spec =
+    tie.close
+    (tie.spec
+    (λ c. search needs)
+    (λ c κs. search needs)
+    (λ c κs. search needs)
+    (λ c. search needs)
+    (λ c κs. search needs)
+    same-length
+    returns)
