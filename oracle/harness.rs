@@ -1,7 +1,7 @@
 // The Rust side of the comparison. The items of the Rust source come, word for word, from the files that ORACLE_ITEMS holds;
 // what they lean on and the source tree lacks is put here in its smallest form. calls.rs runs them on the vectors; built with
-// `--cfg linked`, the program is combine/program.rs, which links the library itself.
-#![allow(dead_code, unused_imports)]
+// `--cfg combine` or `--cfg methylation`, the program is that folder's program.rs, which links the library itself.
+#![allow(dead_code, unused_imports, unexpected_cfgs)]
 
 mod anyhow {
     pub type Result<T> = std::result::Result<T, String>;
@@ -84,6 +84,7 @@ mod caller {
 
 mod methylation {
     use crate::fgumi_raw_bam::flags;
+    use crate::vanilla_caller::SourceRead;
     items!("methylation.rs");
 }
 
@@ -109,10 +110,12 @@ mod duplex_caller {
 
     // Below this module, so that it sees what is private here.
     pub mod program {
-        #[cfg(not(linked))]
+        #[cfg(not(any(combine, methylation)))]
         include!("calls.rs");
-        #[cfg(linked)]
+        #[cfg(combine)]
         include!("combine/program.rs");
+        #[cfg(methylation)]
+        include!("methylation/program.rs");
     }
 }
 

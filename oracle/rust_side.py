@@ -24,12 +24,21 @@ ITEMS = {
     "methylation.rs": [
         "struct MethylationEvidence",
         "struct MethylationAnnotation",
+        "MethylationAnnotation::unconverted_counts",
+        "MethylationAnnotation::converted_counts",
         "MethylationAnnotation::truncate",
         "enum ConversionPattern",
         "ConversionPattern::from_read_flags",
         "ConversionPattern::bases",
         "fn is_cpg_context",
+        "fn annotate_simplex_methylation",
         "fn gate_to_informative",
+        "fn restore_unconverted_bases",
+        "fn build_mm_ml_tags",
+        "struct StrandMethylationTags",
+        "struct DuplexMethylationTags",
+        "fn duplex_methylation_tags",
+        "fn build_mm_tag_no_ml",
     ],
     "vanilla_caller.rs": [
         "struct SourceRead",
@@ -46,6 +55,7 @@ ITEMS = {
         "DuplexConsensusRead::len",
         "DuplexConsensusRead::combined_depths",
         "DuplexConsensusRead::depth_range",
+        "fn methylation_strand_bases",
         "struct MoleculeCall",
         "DuplexConsensusCaller::min_yx_reads_for",
         "DuplexConsensusCaller::allows_single_strand_consensus",
@@ -71,6 +81,14 @@ ITEMS = {
 # Parts of longer functions, each in a function of our own: the file, that function's head, the function it is taken from, where
 # the part starts, the statement that ends it, and our function's result.
 PIECES = [
+    (
+        "methylation.rs",
+        "pub fn summed_counts(bases: &[u8], strands: &[&MethylationAnnotation]) -> (Vec<i16>, Vec<i16>)",
+        "fn duplex_methylation_tags",
+        "let sum =",
+        "let sum =",
+        "(sum(|e| e.unconverted_count), sum(|e| e.converted_count))",
+    ),
     (
         "duplex_caller.rs",
         "fn padded_min_reads(min_reads: Vec<usize>) -> [usize; 3]",
@@ -130,6 +148,12 @@ def there():
     return TREE.is_dir()
 
 
+def owned(name, text):
+    """The text of a function, in an `impl` block where it is a method."""
+    owner = name.rpartition("::")[0]
+    return f"impl {owner} {{\n{text}\n}}" if owner else text
+
+
 def take_items():
     """Writes the items of each file, word for word."""
     WORK.mkdir(parents=True, exist_ok=True)
@@ -137,13 +161,11 @@ def take_items():
         source = Source(TREE / name)
         texts = []
         for item in items:
-            owner = item.rpartition("::")[0]
-            texts.append(f"impl {owner} {{\n{source.item(item)}\n}}" if owner else source.item(item))
+            texts.append(owned(item, source.item(item)))
         for file, head, function, first, last, result in PIECES:
             if file == name:
-                owner = function.rpartition("::")[0]
                 piece = source.piece(function, first, last)
-                texts.append(f"impl {owner} {{\n    {head} {{\n        {piece}\n        {result}\n    }}\n}}")
+                texts.append(owned(function, f"    {head} {{\n        {piece}\n        {result}\n    }}"))
         (WORK / name).write_text("\n\n".join(texts) + "\n")
 
 

@@ -3,14 +3,13 @@
 use super::super::DuplexConsensusCaller;
 use super::case::{Case, Outputs, Read, Strand};
 use super::draw::Draw;
+use super::timing::medians;
 use super::{ours, rust};
 use crate::vanilla_caller::{SourceRead, VanillaConsensusRead};
 use std::hint::black_box;
 
 // So many molecules are taken in turn, so that no branch is learnt by heart.
 const MOLECULES: usize = 64;
-const ROUNDS: usize = 101;
-const ROUND: f64 = 1e6; // nanoseconds
 
 #[derive(Clone, Copy)]
 struct Kind {
@@ -84,30 +83,6 @@ fn run_rust(molecules: &[Prepared]) {
     }
 }
 
-unsafe extern "C" {
-    fn clock_gettime(clock: i32, time: *mut [i64; 2]) -> i32;
-}
-
-// The processor's time of this thread, in nanoseconds: what else the machine does is not counted.
-fn now() -> f64 {
-    const CLOCK_THREAD_CPUTIME_ID: i32 = 3;
-    let mut time = [0; 2];
-    assert_eq!(unsafe { clock_gettime(CLOCK_THREAD_CPUTIME_ID, &mut time) }, 0);
-    time[0] as f64 * 1e9 + time[1] as f64
-}
-
-// Nanoseconds for one record, over so many turns.
-fn timed(turns: u32, mut run: impl FnMut()) -> f64 {
-    let start = now();
-    (0..turns).for_each(|_| run());
-    (now() - start) / f64::from(turns) / MOLECULES as f64
-}
-
-fn median(mut times: Vec<f64>) -> f64 {
-    times.sort_by(f64::total_cmp);
-    times[times.len() / 2]
-}
-
 // A record's time with ours and with the Rust's.
 fn measure(kind: Kind) -> [f64; 2] {
     let molecules = prepared(kind);
@@ -117,15 +92,8 @@ fn measure(kind: Kind) -> [f64; 2] {
         let answer = rust::told(&rust::duplex_consensus(&molecule.case), &mut must);
         assert!(ours::duplex_consensus(&molecule.case, &mut out) == answer && out == must, "the two differ");
     }
-    let turns = |once: f64| (ROUND / (once * MOLECULES as f64)).ceil() as u32;
-    let first = turns(timed(4, || run_ours(&molecules, &mut out)));
-    let second = turns(timed(4, || run_rust(&molecules)));
-    let mut times = [Vec::new(), Vec::new()];
-    for _ in 0..ROUNDS {
-        times[0].push(timed(first, || run_ours(&molecules, &mut out)));
-        times[1].push(timed(second, || run_rust(&molecules)));
-    }
-    times.map(median)
+    let times = medians(|| run_ours(&molecules, &mut out), || run_rust(&molecules));
+    times.map(|time| time / MOLECULES as f64)
 }
 
 fn ratios() {

@@ -16,7 +16,7 @@ impl Draw {
         Draw(seed)
     }
 
-    fn next(&mut self) -> u64 {
+    pub fn next(&mut self) -> u64 {
         self.0 = self.0.wrapping_add(0x9e37_79b9_7f4a_7c15);
         let mut n = self.0;
         n = (n ^ (n >> 30)).wrapping_mul(0xbf58_476d_1ce4_e5b9);
@@ -36,7 +36,7 @@ impl Draw {
         from[self.below(from.len())]
     }
 
-    fn many<T>(&mut self, n: usize, mut one: impl FnMut(&mut Draw) -> T) -> Vec<T> {
+    pub fn many<T>(&mut self, n: usize, mut one: impl FnMut(&mut Draw) -> T) -> Vec<T> {
         (0..n).map(|_| one(self)).collect()
     }
 
@@ -85,7 +85,7 @@ impl Draw {
         })
     }
 
-    fn marks(&mut self, n: usize) -> Vec<u8> {
+    pub fn marks(&mut self, n: usize) -> Vec<u8> {
         let style = self.below(4);
         self.many(n, |draw| match style {
             0 => draw.below(2) as u8,
@@ -96,7 +96,7 @@ impl Draw {
     }
 
     // Bases of one of the styles: the four letters, with N, both cases, any byte.
-    fn bases(&mut self, n: usize, style: usize) -> Vec<u8> {
+    pub fn bases(&mut self, n: usize, style: usize) -> Vec<u8> {
         self.many(n, |draw| match style {
             0 => draw.pick(b"ACGT"),
             1 => draw.pick(b"ACGTN"),

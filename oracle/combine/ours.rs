@@ -10,7 +10,7 @@ struct Reply {
 }
 
 unsafe extern "C" {
-    fn gedrashiw_duplex_consensus(
+    fn gedrashiw_test_duplex_consensus(
         a_present: bool,
         a_bases: *const u8,
         a_bases_len: usize,
@@ -68,7 +68,7 @@ unsafe extern "C" {
         b_converted_out_len: usize,
     ) -> Reply;
 
-    fn gedrashiw_duplex_consensus_has_minimum_reads(
+    fn gedrashiw_test_duplex_consensus_has_minimum_reads(
         positions: usize,
         ab_depths: *const u16,
         ab_depths_len: usize,
@@ -78,7 +78,7 @@ unsafe extern "C" {
         min_reads_len: usize,
     ) -> Reply;
 
-    fn gedrashiw_gated_single_strand(
+    fn gedrashiw_test_gated_single_strand(
         bases: *const u8,
         bases_len: usize,
         quals: *const u8,
@@ -116,7 +116,7 @@ pub fn duplex_consensus(case: &Case, out: &mut Outputs) -> Answer {
     let [a_converted, b_converted] = &mut out.converted;
     // Each pointer is of a slice with that length, and the outputs are vectors of their own.
     let reply = unsafe {
-        gedrashiw_duplex_consensus(
+        gedrashiw_test_duplex_consensus(
             a.present,
             a.bases.as_ptr(),
             a.bases.len(),
@@ -186,7 +186,7 @@ pub fn duplex_consensus(case: &Case, out: &mut Outputs) -> Answer {
 // Whether a record is kept, or the refusal's number.
 pub fn has_minimum_reads(positions: usize, ab_depths: &[u16], ba_depths: &[u16], min_reads: &[u32]) -> Result<bool, u8> {
     let reply = unsafe {
-        gedrashiw_duplex_consensus_has_minimum_reads(
+        gedrashiw_test_duplex_consensus_has_minimum_reads(
             positions,
             ab_depths.as_ptr(),
             ab_depths.len(),
@@ -202,7 +202,7 @@ pub fn has_minimum_reads(positions: usize, ab_depths: &[u16], ba_depths: &[u16],
 // A strand alone; its evidence goes to the first strand's outputs.
 pub fn gated_single_strand(s: &Strand, out: &mut Outputs) -> Answer {
     let reply = unsafe {
-        gedrashiw_gated_single_strand(
+        gedrashiw_test_gated_single_strand(
             s.bases.as_ptr(),
             s.bases.len(),
             s.quals.as_ptr(),

@@ -18,6 +18,9 @@ mod rust {
 mod compare {
     include!("compare.rs");
 }
+mod timing {
+    include!("../timing.rs");
+}
 mod bench {
     include!("bench.rs");
 }

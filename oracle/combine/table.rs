@@ -1,7 +1,7 @@
 // Document 01's refusal table, a second time: which row refuses a call, if any.
 use super::case::{Answer, Case, Room, Strand};
 
-fn first(rows: &[(u8, bool)]) -> Option<u8> {
+pub fn first(rows: &[(u8, bool)]) -> Option<u8> {
     rows.iter().find(|(_, met)| *met).map(|(row, _)| *row)
 }
 

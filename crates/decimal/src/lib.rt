@@ -5,19 +5,6 @@ ghost use lib.ListN.{length, take, set};
 ghost use Rattle.lists.specs.Output.{put};
 ghost use Rattle.decimal.specs.Decimal.{decimal, digit};
 
-// How many digits a number has.
-pub fn decimal_length(n: u64) -> usize
-    ensures { λ r. ⌜ r ≡ length (decimal n) ⌝ }
-{
-    let mut count = 1;
-    let mut rest = n;
-    while 10 <= rest {
-        rest = rest / 10;
-        count += 1;
-    }
-    count
-}
-
 // The character of a digit at a place of out, if that is there.
 fn write_digit(value: u8, out: &mut [u8], at: usize)
     requires { ⌜ value < 10 ⌝ }

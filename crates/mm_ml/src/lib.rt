@@ -9,7 +9,6 @@ ghost use Rattle.refusals.specs.Refusal.{refusal};
 ghost use Rattle.decimal.specs.Decimal.{decimal};
 ghost use Rattle.mm_ml.specs.Text.{prefixOf};
 ghost use Rattle.mm_ml.specs.Tags.{annotated, calledAt, calls, allCalls, allListed, allText, allBytes, mmText, strandFaults, roomFaults, Evident, Counted, TaggedAs, MmTaggedAs};
-use decimal::decimal_length;
 use decimal::write_decimal;
 use lists::copy_u8;
 use methylation::ConversionPattern;
@@ -107,7 +106,48 @@ fn skip_after(skip: usize, called: bool, tracked: bool) -> usize
     skip
 }
 
-// The length of the listed skip counts, and how many there are.
+// How many digits a skip count has.
+fn skip_length(skip: usize) -> usize
+    requires { ⌜ skip < 1024 ⌝ }
+    ensures { λ r. ⌜ r ≡ length (decimal skip) ⌝ }
+{
+    if skip < 10 {
+        return 1;
+    }
+    if skip < 100 {
+        return 2;
+    }
+    if skip < 1000 {
+        return 3;
+    }
+    4
+}
+
+// The length of the listed skip counts, after one more base.
+fn listed_after(mm: usize, called: bool, skip: usize) -> usize
+    requires { ⌜ (skip < 1024) × (mm ≤ 5120) ⌝ }
+    ensures { λ r. ⌜ r ≡ cond called (mm + (1 + length (decimal skip))) mm ⌝ }
+{
+    let more = 1 + skip_length(skip);
+    if called {
+        return mm + more;
+    }
+    mm
+}
+
+// How many there are, after one more base.
+fn count_after(count: usize, called: bool) -> usize
+    requires { ⌜ count ≤ 1024 ⌝ }
+    ensures { λ r. ⌜ r ≡ cond called (count + 1) count ⌝ }
+{
+    if called {
+        return count + 1;
+    }
+    count
+}
+
+// The length of the listed skip counts, and how many there are. A turn chooses between values and not between ways, since
+// whether a base is called cannot be foretold.
 fn listed_length(
     pattern: ConversionPattern,
     bases: &[u8],
@@ -124,10 +164,8 @@ fn listed_length(
     let mut i = 0;
     while i < bases.len() {
         let called = called_at(pattern, bases, marks, unconverted, converted, i);
-        if called {
-            mm += 1 + decimal_length(skip as u64);
-            ml += 1;
-        }
+        mm = listed_after(mm, called, skip);
+        ml = count_after(ml, called);
         skip = skip_after(skip, called, is_tracked(pattern, bases[i]));
         i += 1;
     }
@@ -217,28 +255,61 @@ fn write_mm(
     mm[at] = b';';
 }
 
-fn write_ml(
+// The listed skip counts behind the prefix, and the ML bytes; answers the place after the counts.
+fn write_calls(
     mode: MethylationMode,
     pattern: ConversionPattern,
     bases: &[u8],
     marks: &[u8],
     unconverted: &[u32],
     converted: &[u32],
+    mm: &mut [u8],
+    ml: &mut [u8],
+) -> usize
+    requires { ⌜ Evident (annotated (now bases) pattern (now marks) (now unconverted) (now converted)) ⌝ }
+    requires { ⌜ 4 + length (allListed (annotated (now bases) pattern (now marks) (now unconverted) (now converted))) ≤ length (now mm) ⌝ }
+    requires { ⌜ length (allCalls (annotated (now bases) pattern (now marks) (now unconverted) (now converted))) ≤ length (now ml) ⌝ }
+    ensures { λ r. ⌜ r ≡ 4 + length (allListed (annotated (now (bases .entry)) pattern (now (marks .entry)) (now (unconverted .entry)) (now (converted .entry)))) ⌝ }
+    ensures { λ _. ⌜ now (mm .exit) ≡ put (take 4 (now (mm .entry)) ++ allListed (annotated (now (bases .entry)) pattern (now (marks .entry)) (now (unconverted .entry)) (now (converted .entry)))) (now (mm .entry)) ⌝ }
+    ensures { λ _. ⌜ now (ml .exit) ≡ put (allBytes mode (annotated (now (bases .entry)) pattern (now (marks .entry)) (now (unconverted .entry)) (now (converted .entry)))) (now (ml .entry)) ⌝ }
+{
+    let mut place = 4;
+    let mut count = 0;
+    let mut skip = 0;
+    let mut i = 0;
+    while i < bases.len() {
+        let called = called_at(pattern, bases, marks, unconverted, converted, i);
+        if called {
+            place = write_skip(mm, place, skip);
+            ml[count] = ml_of(mode, unconverted[i], converted[i]);
+            count += 1;
+        }
+        skip = skip_after(skip, called, is_tracked(pattern, bases[i]));
+        i += 1;
+    }
+    place
+}
+
+fn write_mm_ml(
+    mode: MethylationMode,
+    pattern: ConversionPattern,
+    bases: &[u8],
+    marks: &[u8],
+    unconverted: &[u32],
+    converted: &[u32],
+    mm: &mut [u8],
     ml: &mut [u8],
 )
     requires { ⌜ Evident (annotated (now bases) pattern (now marks) (now unconverted) (now converted)) ⌝ }
+    requires { ⌜ length (allText (annotated (now bases) pattern (now marks) (now unconverted) (now converted))) ≤ length (now mm) ⌝ }
     requires { ⌜ length (allCalls (annotated (now bases) pattern (now marks) (now unconverted) (now converted))) ≤ length (now ml) ⌝ }
+    ensures { λ _. ⌜ now (mm .exit) ≡ put (allText (annotated (now (bases .entry)) pattern (now (marks .entry)) (now (unconverted .entry)) (now (converted .entry)))) (now (mm .entry)) ⌝ }
     ensures { λ _. ⌜ now (ml .exit) ≡ put (allBytes mode (annotated (now (bases .entry)) pattern (now (marks .entry)) (now (unconverted .entry)) (now (converted .entry)))) (now (ml .entry)) ⌝ }
 {
-    let mut at = 0;
-    let mut i = 0;
-    while i < bases.len() {
-        if called_at(pattern, bases, marks, unconverted, converted, i) {
-            ml[at] = ml_of(mode, unconverted[i], converted[i]);
-            at += 1;
-        }
-        i += 1;
-    }
+    let prefix = mm_prefix(pattern);
+    copy_u8(&prefix, mm);
+    let end = write_calls(mode, pattern, bases, marks, unconverted, converted, mm, ml);
+    mm[end] = b';';
 }
 
 // The number that refuses outputs of these lengths for what goes to them, 0 for none.
@@ -286,14 +357,14 @@ pub fn build_mm_ml_tags(
     if needed.ml == 0 {
         return MmMl::NoTag;
     }
-    write_mm(pattern, consensus_bases, marks, unconverted, converted, mm);
-    write_ml(
+    write_mm_ml(
         mode,
         pattern,
         consensus_bases,
         marks,
         unconverted,
         converted,
+        mm,
         ml,
     );
     MmMl::Tags {

@@ -51,13 +51,13 @@ consensusReply (Ab n) = made 1 n
 consensusReply (Ba n) = made 2 n
 consensusReply (Both n) = made 3 n
 
--- What `gedrashiw_gated_single_strand` answers and leaves: as the library's call, with its answer as numbers.
+-- What `gedrashiw_test_gated_single_strand` answers and leaves: as the library's call, with its answer as numbers.
 pub record SingleRepliedAs (annotation : Annotation) (s : Arrays) (before now : RecordArrays) (r : Reply) : Type 0 where
   pub told : SingleStrandRecord
   pub answered : r ≡ singleReply told
   pub outputs : SingleAs annotation s before now told
 
--- What `gedrashiw_duplex_consensus` answers and leaves, likewise.
+-- What `gedrashiw_test_duplex_consensus` answers and leaves, likewise.
 pub record ConsensusRepliedAs (a b : Strand) (listed : Bool) (reads : List SourceRead) (bytes : List ℕ) (before now : RecordArrays) (r : Reply) : Type 0 where
   pub told : DuplexConsensus
   pub answered : r ≡ consensusReply told

@@ -26,7 +26,7 @@ pub struct Reply {
     pub positions: usize,
 }
 
-fn annotation_of(number: u8) -> Annotation
+pub fn annotation_of(number: u8) -> Annotation
     ensures { λ r. ⌜ r ≡ annotationOf number ⌝ }
 {
     if number == 0 {
@@ -79,7 +79,7 @@ fn single_reply(r: SingleStrandRecord) -> Reply
 
 // The consensus gate: kind 1 is kept, 0 below.
 #[no_mangle]
-pub extern "C" fn gedrashiw_duplex_consensus_has_minimum_reads(
+pub extern "C" fn gedrashiw_test_duplex_consensus_has_minimum_reads(
     positions: usize,
     ab_depths: &[u16],
     ba_depths: &[u16],
@@ -92,7 +92,7 @@ pub extern "C" fn gedrashiw_duplex_consensus_has_minimum_reads(
 
 // A strand alone: kind 1.
 #[no_mangle]
-pub extern "C" fn gedrashiw_gated_single_strand(
+pub extern "C" fn gedrashiw_test_gated_single_strand(
     bases: &[u8],
     quals: &[u8],
     depths: &[u16],
@@ -166,7 +166,7 @@ fn consensus_reply(r: DuplexConsensus) -> Reply
 
 // The record of two strands: kind 0 is none, 1 A alone, 2 B alone, 3 both.
 #[no_mangle]
-pub extern "C" fn gedrashiw_duplex_consensus(
+pub extern "C" fn gedrashiw_test_duplex_consensus(
     a_present: bool,
     a_bases: &[u8],
     a_quals: &[u8],

@@ -89,36 +89,34 @@ returns-3 c =
 some : (c : tie.Else3) → let t = first (c .before .before .before) in length (calls (mode t) (strand t)) ≡ 0 → ⊥
 some c e = c .if3 .left (c .before .before .before .before .tag-lengths .ensures .1 ∙ e)
 
-write-mm-requires : tie.Need-write-mm-requires
-write-mm-requires c κs =
-    let last = c .before in
+write-mm-ml-requires : tie.Need-write-mm-ml-requires
+write-mm-ml-requires c κs =
+    let last = c .before .before in
     let room = last .before .before .before in
     let t = first room in
-    let fits = enough-room (strand t) (length (mmText (mode t) (strand t))) (length (mm t)) (length (mlArray (mode t) (strand t))) (length (ml t)) (room-number room) (last .before .before .if2 .left) .0 in
-    (evident (strand t) (t .strand-refusal .ensures) (room .before .before .if1 .left), rw (text-some (mode t) (strand t) (some last)) at fits)
-
-write-ml-requires : tie.Need-write-ml-requires
-write-ml-requires c κs =
-    let last = c .before .before .before .before .before in
-    let room = last .before .before .before in
-    let t = first room in
-    let fits = enough-room (strand t) (length (mmText (mode t) (strand t))) (length (mm t)) (length (mlArray (mode t) (strand t))) (length (ml t)) (room-number room) (last .before .before .if2 .left) .1 in
-    (evident (strand t) (t .strand-refusal .ensures) (room .before .before .if1 .left), rw (array-length (mode t) (strand t), calls-some (mode t) (strand t) (some last)) at fits)
+    let fits = enough-room (strand t) (length (mmText (mode t) (strand t))) (length (mm t)) (length (mlArray (mode t) (strand t))) (length (ml t)) (room-number room) (last .before .before .if2 .left) in (
+      evident (strand t) (t .strand-refusal .ensures) (room .before .before .if1 .left),
+      (
+        rw (text-some (mode t) (strand t) (some last)) at (fits .0),
+        rw (array-length (mode t) (strand t), calls-some (mode t) (strand t) (some last)) at (fits .1),
+      ),
+    )
 
 returns-4 : tie.Need-returns-4
 returns-4 c =
-    let last = c .before .before .before .before .before .before .before .before in
+    let last = c .before .before .before .before .before .before .before in
     let room = last .before .before .before in
     let t = first room in
     let n = by-room room in
     let zero = last .before .before .if2 .left in
     let needed = room .before .tag-lengths .ensures in
+    let wrote = c .before .before .before .before .write-mm-ml .ensures in
     record {
       answered =
           rw (needed .0, needed .1 ∙ sym (array-length (mode t) (strand t)), tags-some (calls (mode t) (strand t)) (length (mmText (mode t) (strand t))) (length (mlArray (mode t) (strand t))) (some last))
           (answer-passed Refused _ n zero);
-      mm-text = c .before .before .before .before .before .before .write-mm .ensures ∙ put-equal (mm t) (sym (text-some (mode t) (strand t) (some last))) ∙ after-passed _ _ n zero;
-      ml-array = c .before .before .write-ml .ensures ∙ put-equal (ml t) (array-some (mode t) (strand t) (some last)) ∙ after-passed _ _ n zero;
+      mm-text = wrote .0 ∙ put-equal (mm t) (sym (text-some (mode t) (strand t) (some last))) ∙ after-passed _ _ n zero;
+      ml-array = wrote .1 ∙ put-equal (ml t) (array-some (mode t) (strand t) (some last)) ∙ after-passed _ _ n zero;
     }
 
 pub build-mm-ml-tags-spec : {M : Type 1} → statement M
@@ -131,8 +129,7 @@ build-mm-ml-tags-spec =
     (λ c κs. tt)
     returns-2
     returns-3
-    write-mm-requires
-    write-ml-requires
+    write-mm-ml-requires
     (λ c. search needs)
     (λ c. search needs)
     returns-4)

@@ -1,4 +1,4 @@
--- `test_interface::gedrashiw_duplex_consensus` meets its contract: a walk of its MIR, by hand. The nine outputs are lent again to the
+-- `test_interface::gedrashiw_test_duplex_consensus` meets its contract: a walk of its MIR, by hand. The nine outputs are lent again to the
 -- library's call, each for a lifetime of that call, and come back at the lists that it leaves.
 -- Assumes nothing.
 use mathlib.Core.Path.{_≡_, refl}
@@ -72,10 +72,10 @@ use Rattle.test_interface.proofs.consensus_reply as consensus-reply
 use Rattle.test_interface.proofs.consensus_reply.Symbol as consensus-reply-def
 use Rattle.test_interface.proofs.consensus_reply.Symbol.{name as #test-interface·consensus-reply}
 use Rattle.test_interface.proofs.consensus_reply.Met as consensus-reply-thm
-use Rattle.test_interface.proofs.gedrashiw_duplex_consensus.Key.{name as #me}
-use Rattle.test_interface.proofs.gedrashiw_duplex_consensus as me
-use Rattle.test_interface.proofs.gedrashiw_duplex_consensus.Statement as stated
-use Rattle.test_interface.proofs.gedrashiw_duplex_consensus.Code as code
+use Rattle.test_interface.proofs.gedrashiw_test_duplex_consensus.Key.{name as #me}
+use Rattle.test_interface.proofs.gedrashiw_test_duplex_consensus as me
+use Rattle.test_interface.proofs.gedrashiw_test_duplex_consensus.Statement as stated
+use Rattle.test_interface.proofs.gedrashiw_test_duplex_consensus.Code as code
 
 -- at exit nothing is had of the parameters that no clause reads there
 abbrev stayed : Stays (me.ended .signature .params) (me.ended .kept)
@@ -574,9 +574,9 @@ module _ {M : Type 1} (𝓤 : URA M) (H : Heap 𝓤) (A : Atoms 𝓤) (W : Given
 meets : {M : Type 1} (𝓤 : URA M) (H : Heap 𝓤) (A : Atoms 𝓤) (W : Given 𝓤 H A) (mem : Memory → SProp 𝓤) (run : Routine → Fun 𝓤) (𝓣 : Tables 𝓤 H) → Triple 𝓤 (𝓣 .C #test-interface·annotation-of) (AnnotationOfC 𝓤 H A mem run) → Triple 𝓤 (𝓣 .C #duplex-consensus·duplex-consensus) (DuplexConsensusC 𝓤 H A mem run) → Triple 𝓤 (𝓣 .C #test-interface·consensus-reply) (ConsensusReplyC 𝓤 H A mem run) → Meets 𝓤 H A me.signature (WpFn 𝓤 H (𝓣 .C) (𝓣 .Λ) code.function) (me.spec 𝓤 H A mem run)
 meets 𝓤 H A W mem run 𝓣 known-annotation-of known-duplex-consensus known-consensus-reply = walk-meets 𝓤 H A me.ended stayed W (goes-dropped 𝓤 H A W 25 (plain (λ _. bool)) yes (λ κs x f. refl), (goes-dropped 𝓤 H A W 25 (shrSliceOf (0 ∷ []) tt (plain (λ _. u8))) yes (λ κs x f. refl), (goes-dropped 𝓤 H A W 25 (shrSliceOf (1 ∷ []) tt (plain (λ _. u8))) yes (λ κs x f. refl), (goes-dropped 𝓤 H A W 25 (shrSliceOf (2 ∷ []) tt (plain (λ _. u16))) yes (λ κs x f. refl), (goes-dropped 𝓤 H A W 25 (shrSliceOf (3 ∷ []) tt (plain (λ _. u16))) yes (λ κs x f. refl), (goes-dropped 𝓤 H A W 25 (plain (λ _. u8)) yes (λ κs x f. refl), (goes-dropped 𝓤 H A W 25 (shrSliceOf (4 ∷ []) tt (plain (λ _. u8))) yes (λ κs x f. refl), (goes-dropped 𝓤 H A W 25 (shrSliceOf (5 ∷ []) tt (plain (λ _. u32))) yes (λ κs x f. refl), (goes-dropped 𝓤 H A W 25 (shrSliceOf (6 ∷ []) tt (plain (λ _. u32))) yes (λ κs x f. refl), (goes-dropped 𝓤 H A W 25 (plain (λ _. bool)) yes (λ κs x f. refl), (goes-dropped 𝓤 H A W 25 (shrSliceOf (7 ∷ []) tt (plain (λ _. u8))) yes (λ κs x f. refl), (goes-dropped 𝓤 H A W 25 (shrSliceOf (8 ∷ []) tt (plain (λ _. u8))) yes (λ κs x f. refl), (goes-dropped 𝓤 H A W 25 (shrSliceOf (9 ∷ []) tt (plain (λ _. u16))) yes (λ κs x f. refl), (goes-dropped 𝓤 H A W 25 (shrSliceOf (10 ∷ []) tt (plain (λ _. u16))) yes (λ κs x f. refl), (goes-dropped 𝓤 H A W 25 (plain (λ _. u8)) yes (λ κs x f. refl), (goes-dropped 𝓤 H A W 25 (shrSliceOf (11 ∷ []) tt (plain (λ _. u8))) yes (λ κs x f. refl), (goes-dropped 𝓤 H A W 25 (shrSliceOf (12 ∷ []) tt (plain (λ _. u32))) yes (λ κs x f. refl), (goes-dropped 𝓤 H A W 25 (shrSliceOf (13 ∷ []) tt (plain (λ _. u32))) yes (λ κs x f. refl), (goes-dropped 𝓤 H A W 25 (plain (λ _. bool)) yes (λ κs x f. refl), (goes-dropped 𝓤 H A W 25 (shrSliceOf (14 ∷ []) tt (plain (λ _. SourceRead-row.the-row))) yes (λ κs x f. refl), (goes-dropped 𝓤 H A W 25 (shrSliceOf (15 ∷ []) tt (plain (λ _. u8))) yes (λ κs x f. refl), (goes-slice 𝓤 H A W 25 16 tt (plain (λ _. u8)), (goes-slice 𝓤 H A W 25 17 tt (plain (λ _. u8)), (goes-slice 𝓤 H A W 25 18 tt (plain (λ _. u16)), (goes-slice 𝓤 H A W 25 19 tt (plain (λ _. u8)), (goes-slice 𝓤 H A W 25 20 tt (plain (λ _. u32)), (goes-slice 𝓤 H A W 25 21 tt (plain (λ _. u32)), (goes-slice 𝓤 H A W 25 22 tt (plain (λ _. u8)), (goes-slice 𝓤 H A W 25 23 tt (plain (λ _. u32)), (goes-slice 𝓤 H A W 25 24 tt (plain (λ _. u32)), tt)))))))))))))))))))))))))))))) (me.clauses 𝓤 H A mem run) (WpFn 𝓤 H (𝓣 .C) (𝓣 .Λ) code.function) (WpFn-mono 𝓤 H (W .laws) 𝓣 code.function) (walks 𝓤 H A W mem run 𝓣 known-annotation-of known-duplex-consensus known-consensus-reply)
 
-pub gedrashiw-duplex-consensus-spec : {M : Type 1} → stated.statement M
+pub gedrashiw-test-duplex-consensus-spec : {M : Type 1} → stated.statement M
 unfolding code.routine tablesOf
-gedrashiw-duplex-consensus-spec 𝓤 H 𝓜 𝓖 𝓡 =
+gedrashiw-test-duplex-consensus-spec 𝓤 H 𝓜 𝓖 𝓡 =
     entered 𝓤 H (tripleOf 𝓤 H (𝓖 .A) me.signature (me.spec 𝓤 H (𝓖 .A) (𝓜 .mem) (𝓡 .run)))
     (tables 𝓤 H 𝓜 𝓡 code.env .C) (tables 𝓤 H 𝓜 𝓡 code.env .Λ) #me code.function (code.unfolded 𝓤 H 𝓜 𝓡)
     (meets 𝓤 H (𝓖 .A) (givenOf 𝓤 H 𝓜 𝓖) (𝓜 .mem) (𝓡 .run) (tablesOf 𝓤 H 𝓜 (tables 𝓤 H 𝓜 𝓡 code.env))

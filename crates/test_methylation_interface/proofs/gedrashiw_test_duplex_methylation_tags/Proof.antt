@@ -1,0 +1,33 @@
+-- `test_methylation_interface::gedrashiw_test_duplex_methylation_tags` meets its contract: it hands on the answer. Assumes nothing.
+use Rattle.test_methylation_interface.proofs.Replied.{duplex-replied}
+use borrow.Author.Needs.{needs}
+use Rattle.test_methylation_interface.proofs.gedrashiw_test_duplex_methylation_tags.Statement.{statement}
+use Rattle.test_methylation_interface.proofs.gedrashiw_test_duplex_methylation_tags.Tie as tie
+
+returns : tie.Need-returns
+returns c =
+    let called = c .before .before .before .before .before .before .before .before .before .before .before .before .before .before .before .before .before .before .before .before .before .before .before in
+    let told = called .before .before .before .before .before .before .before .before .before .before .before .before in
+    duplex-replied (told .before .before .annotation-of .ensures) (told .before .annotation-of2 .ensures) (told .mode-of .ensures) (called .duplex-methylation-tags .ensures) (c .duplex-tags-reply .ensures)
+
+pub gedrashiw-test-duplex-methylation-tags-spec : {M : Type 1} → statement M
+gedrashiw-test-duplex-methylation-tags-spec =
+    tie.close
+    (tie.spec
+    (λ c κs. tt)
+    (λ c κs. tt)
+    (λ c κs. tt)
+    (λ c κs. tt)
+    (λ c κs. tt)
+    (λ c. search needs)
+    (λ c. search needs)
+    (λ c. search needs)
+    (λ c. search needs)
+    (λ c. search needs)
+    (λ c. search needs)
+    (λ c. search needs)
+    (λ c. search needs)
+    (λ c. search needs)
+    (λ c. search needs)
+    (λ c. search needs)
+    returns)

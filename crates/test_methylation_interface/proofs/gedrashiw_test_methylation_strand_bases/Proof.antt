@@ -1,0 +1,21 @@
+-- `test_methylation_interface::gedrashiw_test_methylation_strand_bases` meets its contract: it hands on the answer. Assumes nothing.
+use borrow.Author.Needs.{needs}
+use Rattle.test_methylation_interface.proofs.gedrashiw_test_methylation_strand_bases.Statement.{statement}
+use Rattle.test_methylation_interface.proofs.gedrashiw_test_methylation_strand_bases.Tie as tie
+
+returns : tie.Need-returns
+returns c =
+    let called = c .before .before .before in
+    let leaves = called .methylation-strand-bases .ensures in
+    let told = called .before .before .annotation-of .ensures in
+    (rw (c .positions-reply .ensures, leaves .0, told), rw told at (leaves .1))
+
+pub gedrashiw-test-methylation-strand-bases-spec : {M : Type 1} → statement M
+gedrashiw-test-methylation-strand-bases-spec =
+    tie.close
+    (tie.spec
+    (λ c κs. tt)
+    (λ c κs. tt)
+    (λ c κs. tt)
+    (λ c. search needs)
+    returns)
