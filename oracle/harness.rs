@@ -1,6 +1,6 @@
 // The Rust side of the comparison. The items of the Rust source come, word for word, from the files that ORACLE_ITEMS holds;
 // what they lean on and the source tree lacks is put here in its smallest form. calls.rs runs them on the vectors; built with
-// `--cfg combine` or `--cfg methylation`, the program is that folder's program.rs, which links the library itself.
+// `--cfg combine`, `--cfg methylation` or `--cfg line`, the program is that folder's program.rs.
 #![allow(dead_code, unused_imports, unexpected_cfgs)]
 
 mod anyhow {
@@ -110,10 +110,12 @@ mod duplex_caller {
 
     // Below this module, so that it sees what is private here.
     pub mod program {
-        #[cfg(not(any(combine, methylation)))]
+        #[cfg(not(any(combine, methylation, line)))]
         include!("calls.rs");
         #[cfg(combine)]
         include!("combine/program.rs");
+        #[cfg(line)]
+        include!("line/program.rs");
         #[cfg(methylation)]
         include!("methylation/program.rs");
     }

@@ -1,0 +1,3 @@
+pub mod Ample
+pub mod Bytes
+pub mod Few

@@ -1,0 +1,3 @@
+pub mod Parts
+pub mod Thresholds
+pub mod Text

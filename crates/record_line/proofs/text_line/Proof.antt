@@ -1,0 +1,12 @@
+-- `record_line::text_line` meets its contract: the text is written to an array of zeros. Assumes nothing.
+use borrow.Author.Needs.{needs}
+use Rattle.record_line.specs.Line.{blank}
+use Rattle.record_line.proofs.text_line.Statement.{statement}
+use Rattle.record_line.proofs.text_line.Tie as tie
+
+returns : tie.Need-returns
+unfolding blank
+returns c = record { written = c .before .write-line .ensures .0; fits = c .before .write-line .ensures .1 }
+
+pub text-line-spec : {M : Type 1} → statement M
+text-line-spec = tie.close (tie.spec (λ c. search needs) (λ c κs. search needs) returns)
