@@ -1,116 +1,74 @@
--- Laws of the entry.
---     joined              the code's chain of tests, the library's number among them
---     decoded-lengths     how many numbers are decoded
---     clear               where the entry is not refused, nor is the library's call, and there is room
---     narrow              then what is decoded fits its arrays
---     never, numbers      the library's call then answers a record, whose rates are no NaN
---     none-taken          of an absent second strand
+-- What is promised of the entry for the combination, by its test of the patterns and the answer of the call below.
+--     turned-down     a pattern is wrong
+--     passed-on       none is: what the call on bytes promises
 -- Assumes nothing.
-use mathlib.Core.Path.{_≡_, refl, sym, ap, _∙_}
-use mathlib.Core.Bool.{Bool, true, false, not, cond}
-use mathlib.Core.List.{List, [], _∷_, _++_}
-use Prim.Native.Nat.{ℕ, zero, suc, _-_, _/_, _≤_}
+use mathlib.Core.Path.{_≡_, refl, sym, ap, subst, _∙_}
+use mathlib.Core.Bool.{Bool, true, false, cond, _||_}
+use mathlib.Core.List.{List, [], _∷_}
+use Prim.Native.Nat.{ℕ}
 use native.Mathlib.Omega.{arith}
-use borrow.Author.Tests.{ltb-false, ne-eqb}
-use lib.Dec.{T, eqb, ltb}
-use lib.ListN.{length, take, length-take}
-use Rattle.lists.proofs.Output.{answer-passed}
-use Rattle.byte_numbers.proofs.Bytes.{length-numbers}
-use Rattle.refusals.specs.Refusal.{Fault, _if_, order, sorted, refusal, refuseIf}
-use Rattle.refusals.proofs.Refusal.{listed, and-then}
-use Rattle.duplex_metrics.specs.Metrics.{Input, lengths, metricsFaults, metricsRefused, metricsOf}
-use Rattle.duplex_metrics.specs.HonestRates.{Call, aE, bE, cE}
-use Rattle.duplex_metrics.specs.declared.Metrics.the-variants.{Refused, Of}
-use Rattle.duplex_metrics.specs.declared.MetricsLengths.{MetricsLengths}
-use Rattle.duplex_metrics.specs.declared.MetricsRecord.{MetricsRecord}
-use Rattle.duplex_metrics.proofs.Few.{Few, few}
-use Rattle.duplex_metrics.proofs.HonestRates.{rate-number}
-use Rattle.c_interface.specs.Entry.{Narrow, Numbers, decoded, halves, entryFaults}
+use lib.Dec.{eqb}
+use Rattle.lists.specs.Output.{answer}
+use Rattle.lists.proofs.Output.{answer-refused}
+use Rattle.refusals.specs.Refusal.{_if_, refusal}
+use Rattle.refusals.proofs.Refusal.{and-then}
+use Rattle.methylation.specs.declared.Annotation.{Annotation}
+use Rattle.duplex_kind.specs.Kind.{kindOf, givenFaults}
+use Rattle.duplex_kind.specs.declared.DuplexConsensus.{DuplexConsensus}
+use Rattle.duplex_kind.specs.declared.DuplexConsensus.the-variants.{Refused}
+use Rattle.duplex_record.specs.Record.{duplexFaults}
+use Rattle.strand_bytes.specs.Strand.{StrandBytes, strandBytes, strandOf}
+use Rattle.duplex_bytes.specs.Bytes.{seen, bytesFaults, bytesRefused}
+use Rattle.record_bytes.specs.Outputs.{RecordBytes, asArrays}
+use Rattle.record_bytes.proofs.Outputs.{bytes-refused}
+use Rattle.consensus_bytes.specs.Consensus.{ConsensusBytesAs}
+use Rattle.c_interface.specs.Entry.{entryRefused, recordFor, ConsensusEntry}
+use Rattle.c_interface.specs.declared.DuplexRecord.{DuplexRecord}
 
--- A call that tests row 13, then another's faults, then row 12.
-wrapped :
-    (p : Bool) (fs : List Fault) (q : Bool)
-    → sorted order ((13 if p) ∷ (fs ++ ((12 if q) ∷ []))) ≡ (13 if p) ∷ sorted order (fs ++ ((12 if q) ∷ []))
-    → sorted order (fs ++ ((12 if q) ∷ [])) ≡ sorted order fs ++ ((12 if q) ∷ [])
-    → T (listed fs)
-    → refusal ((13 if p) ∷ (fs ++ ((12 if q) ∷ []))) ≡ cond p 13 (cond (eqb (refusal fs) 0) (cond q 12 0) (refusal fs))
+-- 13 comes first.
+by-13 : (wrong : Bool) (n : ℕ) → cond (eqb (refusal ((13 if wrong) ∷ [])) 0) n (refusal ((13 if wrong) ∷ [])) ≡ cond wrong 13 n
 unfolding refusal
-wrapped p fs q first last t =
-    and-then ((13 if p) ∷ []) (fs ++ ((12 if q) ∷ [])) first tt
-    ∙ go p (refusal (fs ++ ((12 if q) ∷ [])))
-    ∙ ap (λ (n : ℕ). cond p 13 n) (and-then fs ((12 if q) ∷ []) last t)
-  where
-    go : (p : Bool) (n : ℕ) → cond (eqb (cond p 13 0) 0) n (cond p 13 0) ≡ cond p 13 n
-    go true n = refl
-    go false n = refl
+by-13 true n = refl
+by-13 false n = refl
 
-refusal-is :
-    (broken : Bool) (n : MetricsLengths) (out : ℕ)
-    → refusal (entryFaults broken n out) ≡ cond broken 13 (cond (eqb (refusal (metricsFaults n)) 0) (cond (ltb out 40) 12 0) (refusal (metricsFaults n)))
-unfolding entryFaults metricsFaults
-refusal-is broken n out = wrapped broken (metricsFaults n) (ltb out 40) refl refl tt
+pub same-strand :
+    (present : Bool) {told annotation : Annotation} (bases quals depths errors evidence : List ℕ)
+    → told ≡ annotation
+    → seen (strandBytes present told bases quals depths errors evidence) ≡ seen (strandBytes present annotation bases quals depths errors evidence)
+same-strand present bases quals depths errors evidence e = ap (λ (x : Annotation). seen (strandBytes present x bases quals depths errors evidence)) e
 
-pub joined :
-    (broken : Bool) (n : MetricsLengths) (out : ℕ) {first inner second last : ℕ}
-    → first ≡ refuseIf 0 broken 13
-    → inner ≡ refusal (metricsFaults n)
-    → second ≡ refuseIf first (not (eqb inner 0)) inner
-    → last ≡ refuseIf second (ltb out 40) 12
-    → last ≡ refusal (entryFaults broken n out)
-unfolding refuseIf
-joined broken n out {first} {inner} {second} e f g h = rw (h, g, e, refusal-is, ← f) (go broken inner (ltb out 40))
-  where
-    go : (p : Bool) (i : ℕ) (q : Bool) → refuseIf (refuseIf (refuseIf 0 p 13) (not (eqb i 0)) i) q 12 ≡ cond p 13 (cond (eqb i 0) (cond q 12 0) i)
-    go true i q = refl
-    go false zero q = refl
-    go false (suc i) q = rw (ne-eqb (suc i) 0 (λ e. omega arith), ne-eqb (suc i) 0 (λ e. omega arith))
+-- The patterns' tests p and q, of which the code has s and t.
+module _ (p q : Bool) (a b : StrandBytes) (listed : Bool) (run : List ℕ) (before : RecordBytes) {s t : Bool} (first : s ≡ p) (second : t ≡ q) where
+  tested : (s || t) ≡ (p || q)
+  tested = rw (first, second)
 
-pub decoded-lengths : (x : Input) → lengths (decoded x) ≡ halves (lengths x)
-unfolding halves
-decoded-lengths x = simp length-numbers
+  is-first : entryRefused (p || q) a b listed run before ≡ cond (p || q) 13 (bytesRefused a b listed run (asArrays before))
+  unfolding bytesFaults duplexFaults givenFaults
+  is-first = and-then ((13 if (p || q)) ∷ []) (bytesFaults a b listed run (asArrays before)) refl tt ∙ by-13 (p || q) (bytesRefused a b listed run (asArrays before))
 
-pub clear : (broken : Bool) (n : MetricsLengths) (out : ℕ) {number : ℕ} → number ≡ refusal (entryFaults broken n out) → number ≡ 0 → (refusal (metricsFaults n) ≡ 0) × (40 ≤ out)
-clear broken n out e z =
-    let (passed, room) = go broken (refusal (metricsFaults n)) (ltb out 40) (sym (refusal-is broken n out) ∙ sym e ∙ z) in
-    (passed, ltb-false out 40 room)
-  where
-    go : (p : Bool) (i : ℕ) (q : Bool) → _≡_ {A = ℕ} (cond p 13 (cond (eqb i 0) (cond q 12 0) i)) 0 → (i ≡ 0) × (q ≡ false)
-    go true i q e = absurd (omega arith)
-    go false zero true e = absurd (omega arith)
-    go false zero false e = (refl, refl)
-    go false (suc i) q e = absurd (let no = rw (ne-eqb (suc i) 0 (λ e. omega arith)) at e in omega arith)
+  pub turned-down : {r : DuplexRecord} → (s || t) ≡ true → r ≡ recordFor (Refused 13) → ConsensusEntry (p || q) a b listed run before before r
+  turned-down h e =
+      let wrong : (p || q) ≡ true = sym tested ∙ h in
+      let number : 13 ≡ entryRefused (p || q) a b listed run before = sym (is-first ∙ rw wrong) in
+      record {
+        answered = e ∙ ap recordFor (answer-refused Refused (kindOf (strandOf a) (strandOf b)) number (λ z. omega arith));
+        outputs = bytes-refused number (λ z. omega arith);
+      }
 
--- Up to 1,024 numbers of the second strand, be it there or not.
-either : (second : Bool) (n : ℕ) → (second ≡ false → n ≡ 0) → (second ≡ true → n / 2 ≤ 1024) → n / 2 ≤ 1024
-either true n none some = some refl
-either false n none some = omega (arith, none refl)
-
-pub narrow : (x : Input) → metricsRefused (decoded x) ≡ 0 → (x .second ≡ false → length (x .b) ≡ 0) → (x .second ≡ false → length (x .b-errors) ≡ 0) → Narrow x
-unfolding halves
-narrow x z b be =
-    let s : Few _ = rw decoded-lengths at (few (lengths (decoded x)) refl z) in
-    record {
-      a = s .a;
-      a-errors = s .a-errors;
-      b = either (x .second) (length (x .b)) b (λ h. s .b h .0);
-      b-errors = either (x .second) (length (x .b-errors)) be (λ h. s .b h .1);
-      errors = s .errors;
-    }
-
-pub never : (x : Input) {k : ℕ} → metricsRefused x ≡ 0 → metricsOf x ≡ Refused k → ⊥
-unfolding metricsOf
-never x {k} z e =
-    let record-is = answer-passed Refused _ (sym z) refl ∙ e in
-    let no : _≡_ {A = ℕ} 0 1 = cc in
-    omega arith
-
-pub numbers : (x : Input) (r : MetricsRecord) → metricsOf x ≡ Of r → Numbers r
-numbers x r e =
-    let call : Call = record { given = x; returned = r; answered = e } in
-    record { a = rate-number call aE; b = rate-number call bE; c = rate-number call cE }
-
--- r bytes of an array of the second strand are looked at: all or none.
-pub none-taken : (second : Bool) (xs : List ℕ) {r : ℕ} → r ≡ cond second (length xs) 0 → second ≡ false → length (take (r - 0) xs) ≡ 0
-none-taken second xs {r} e h =
-    let none : r ≡ 0 = rw h at e in
-    omega (arith, length-take (r - 0) xs)
+  pub passed-on :
+      {given other : StrandBytes} {now : RecordBytes} {told : DuplexConsensus} {r : DuplexRecord}
+      → (s || t) ≡ false
+      → given ≡ a
+      → other ≡ b
+      → ConsensusBytesAs given other listed run before now told
+      → r ≡ recordFor told
+      → ConsensusEntry (p || q) a b listed run before now r
+  passed-on {other = other} {now = now} {told = told} h e f x g =
+      let right : (p || q) ≡ false = sym tested ∙ h in
+      let same : bytesRefused a b listed run (asArrays before) ≡ entryRefused (p || q) a b listed run before = sym (is-first ∙ rw right) in
+      let y : ConsensusBytesAs a b listed run before now told =
+      subst (λ (z : StrandBytes). ConsensusBytesAs a z listed run before now told) f (subst (λ (z : StrandBytes). ConsensusBytesAs z other listed run before now told) e x) in
+      record {
+        answered = g ∙ ap recordFor (y .answered ∙ ap (λ (n : ℕ). answer Refused n (kindOf (strandOf a) (strandOf b))) same);
+        outputs = rw (← same) (y .outputs);
+      }

@@ -1,89 +1,59 @@
--- What the entry for C gives: the library's call `duplex_metrics` on the numbers that the bytes stand for.
-use Prim.Native.Nat.{ℕ, _/_, _≤_}
+-- What the entries for C give, document 01's forms for the viewer: the library's calls from bytes to bytes, with numbers for what is
+-- there or not and for an answer.
+use Prim.Native.Nat.{ℕ}
 use mathlib.Core.Path.{_≡_}
-use mathlib.Core.Bool.{Bool, not}
-use mathlib.Core.List.{List, [], _∷_, _++_}
-use lib.Dec.{T}
-use lib.Ieee.{binary32, toBits, isNan}
-use lib.ListN.{length}
-use Rattle.lists.specs.Output.{after}
-use Rattle.lists.specs.Part.{onlyIf}
-use Rattle.byte_numbers.specs.Bytes.{words16, oddCount, bytes32}
-use Rattle.refusals.specs.Refusal.{Fault, _if_, any, tooShort, refusal}
-use Rattle.duplex_metrics.specs.Metrics.{Input, input, lengths, metricsFaults, metricsOf}
-use Rattle.duplex_metrics.specs.declared.Metrics.{Metrics}
-use Rattle.duplex_metrics.specs.declared.Metrics.the-variants.{Refused, Of}
-use Rattle.duplex_metrics.specs.declared.MetricsLengths.{MetricsLengths}
-use Rattle.duplex_metrics.specs.declared.MetricsRecord.{MetricsRecord}
+use mathlib.Core.Bool.{Bool, cond, not, _&&_}
+use mathlib.Core.List.{List, _∷_}
+use lib.Dec.{eqb, ltb}
+use Rattle.lists.specs.Output.{answer}
+use Rattle.refusals.specs.Refusal.{_if_, refusal}
+use Rattle.methylation.specs.declared.Annotation.{Annotation}
+use Rattle.methylation.specs.declared.Annotation.the-variants.{Absent, Of}
+use Rattle.methylation.specs.declared.ConversionPattern.the-variants.{CToT, GToA}
+use Rattle.duplex_kind.specs.Kind.{kindOf}
+use Rattle.duplex_kind.specs.declared.DuplexConsensus.{DuplexConsensus}
+use Rattle.duplex_kind.specs.declared.DuplexConsensus.the-variants.{Refused, NoRecord, Ab, Ba, Both}
+use Rattle.strand_bytes.specs.Strand.{StrandBytes, strandBytes, strandOf}
+use Rattle.duplex_bytes.specs.Bytes.{seen, bytesFaults, bytesRecord}
+use Rattle.record_bytes.specs.Outputs.{RecordBytes, asBytes, asArrays, LeavesBytes}
+use Rattle.c_interface.specs.declared.DuplexRecord.{DuplexRecord}
 
--- The arrays as bytes, of which an absent second strand's are not looked at.
-abbrev pub seen : Input → Input
-seen x = input (x .a) (x .a-errors) (x .second) (onlyIf (x .second) (x .b)) (onlyIf (x .second) (x .b-errors)) (x .bases) (x .errors)
+-- 0 is no, any other number yes.
+abbrev pub yes : ℕ → Bool
+yes number = not (eqb number 0)
 
--- The numbers that they stand for.
-abbrev pub decoded : Input → Input
-decoded x = input (words16 (x .a)) (words16 (x .a-errors)) (x .second) (words16 (x .b)) (words16 (x .b-errors)) (x .bases) (words16 (x .errors))
+-- A pattern is looked at of a strand that is there and annotated.
+abbrev pub told : ℕ → ℕ → Bool
+told present annotated = yes present && yes annotated
 
--- Row 13: a byte count does not fit the width. A base is one byte, so theirs fits.
-unfoldable pub oddCounts : MetricsLengths → Bool
-oddCounts n = any oddCount (n .a ∷ n .aErrors ∷ n .b ∷ n .bErrors ∷ n .errors ∷ [])
+-- 0 is C to T, 1 G to A; a pattern above 1 is refused.
+unfoldable pub annotationOf : Bool → ℕ → Annotation
+annotationOf annotated pattern = cond annotated (Of (cond (eqb pattern 0) CToT GToA)) Absent
 
--- Row 13, then what refuses the library's call, then row 12 for 40 bytes of output.
-unfoldable pub entryFaults : Bool → MetricsLengths → ℕ → List Fault
-entryFaults broken n out = (13 if broken) ∷ (metricsFaults n ++ ((12 if tooShort 40 (out ∷ [])) ∷ []))
+abbrev pub wrongPattern : Bool → ℕ → Bool
+wrongPattern annotated pattern = annotated && ltb 1 pattern
 
-abbrev pub entryRefused : Input → List ℕ → ℕ
-entryRefused x out = refusal (entryFaults (oddCounts (lengths x)) (lengths (decoded x)) (length out))
+-- A strand as C gives it, as far as it is looked at.
+abbrev pub strandGiven : ℕ → ℕ → ℕ → List ℕ → List ℕ → List ℕ → List ℕ → List ℕ → StrandBytes
+strandGiven present annotated pattern bases quals depths errors evidence =
+    seen (strandBytes (yes present) (annotationOf (told present annotated) pattern) bases quals depths errors evidence)
 
--- A record as ten numbers, the rates as their bits.
-unfoldable pub metricsWords : MetricsRecord → List ℕ
-metricsWords r =
-    r .aD
-    ∷ r .aM
-    ∷ toBits binary32 (r .aE)
-    ∷ r .bD
-    ∷ r .bM
-    ∷ toBits binary32 (r .bE)
-    ∷ r .cD
-    ∷ r .cM
-    ∷ toBits binary32 (r .cE)
-    ∷ r .nc
-    ∷ []
+-- Row 13 for a pattern, before all that refuses the library's call.
+abbrev pub entryRefused : Bool → StrandBytes → StrandBytes → Bool → List ℕ → RecordBytes → ℕ
+entryRefused wrong a b listed run out = refusal ((13 if wrong) ∷ bytesFaults a b listed run (asArrays out))
 
--- The library's answer as bytes: a record's, and none for a refusal.
-abbrev pub metricsBytes : Metrics → List ℕ
-metricsBytes (Refused n) = []
-metricsBytes (Of r) = bytes32 (metricsWords r)
+-- An answer as numbers. Kind 0: none; 1: A alone; 2: B alone; 3: both.
+abbrev pub made : ℕ → ℕ → DuplexRecord
+made kind n = record { refused = 0; kind = kind; positions = n }
 
--- What the entry answers and leaves in its output, given these arrays.
-pub record MetricsEntry (x : Input) (before after-call : List ℕ) (r : ℕ) : Type 0 where
-  pub answered : r ≡ entryRefused x before
-  pub left : after-call ≡ after (entryRefused x before) (metricsBytes (metricsOf (decoded x))) before
+abbrev pub recordFor : DuplexConsensus → DuplexRecord
+recordFor (Refused number) = record { refused = number; kind = 0; positions = 0 }
+recordFor NoRecord = made 0 0
+recordFor (Ab n) = made 1 n
+recordFor (Ba n) = made 2 n
+recordFor (Both n) = made 3 n
 
--- For the functions below the entry.
-
--- How many numbers, and bases, so many bytes are.
-unfoldable pub halves : MetricsLengths → MetricsLengths
-halves n = record {
-  a = n .a / 2;
-  aErrors = n .aErrors / 2;
-  second = n .second;
-  b = n .b / 2;
-  bErrors = n .bErrors / 2;
-  bases = n .bases;
-  errors = n .errors / 2;
-}
-
--- A record whose rates are no NaN, so that their bits may be asked for.
-pub record Numbers (r : MetricsRecord) : Type 0 where
-  pub a : T (not (isNan (r .aE)))
-  pub b : T (not (isNan (r .bE)))
-  pub c : T (not (isNan (r .cE)))
-
--- Bytes of at most 1,024 numbers an array.
-pub record Narrow (x : Input) : Type 0 where
-  pub a : length (x .a) / 2 ≤ 1024
-  pub a-errors : length (x .a-errors) / 2 ≤ 1024
-  pub b : length (x .b) / 2 ≤ 1024
-  pub b-errors : length (x .b-errors) / 2 ≤ 1024
-  pub errors : length (x .errors) / 2 ≤ 1024
+-- What `gedrashiw_duplex_consensus` answers and leaves, where a pattern is wrong or not.
+pub record ConsensusEntry (wrong : Bool) (a b : StrandBytes) (listed : Bool) (run : List ℕ) (before now : RecordBytes) (r : DuplexRecord) : Type 0 where
+  pub answered : r ≡ recordFor (answer Refused (entryRefused wrong a b listed run before) (kindOf (strandOf a) (strandOf b)))
+  pub outputs : LeavesBytes (entryRefused wrong a b listed run before) (asBytes (bytesRecord a b listed run)) before now

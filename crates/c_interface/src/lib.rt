@@ -1,167 +1,148 @@
-// Entry points for C programs. An array of wider numbers is passed as its bytes, low byte first, and an answer is a refusal's
-// number, 0 for none. This crate owns row 13; the layout of the bytes is byte_numbers's, what a call answers duplex_metrics's.
-// Uses lists, refusals, byte_numbers and duplex_metrics.
+// Entry points for C programs: numbers and byte slices, and answers as numbers. An array of wider numbers is passed as its bytes,
+// low byte first. This crate owns the numbers for what is there or not, for a pattern and for a kind; the calls are metrics_bytes's
+// and consensus_bytes's. Uses refusals, methylation, duplex_kind, metrics_bytes and consensus_bytes.
 ghost use mathlib.Core.Path.{_≡_};
-ghost use mathlib.Core.Bool.{false, not};
-ghost use Prim.Native.Nat.{_≤_};
-ghost use lib.Dec.{eqb};
-ghost use lib.ListN.{length};
-ghost use Rattle.lists.specs.Output.{put};
-ghost use Rattle.byte_numbers.specs.Bytes.{oddCount, bytes32};
-ghost use Rattle.refusals.specs.Refusal.{refusal};
-ghost use Rattle.duplex_metrics.specs.Metrics.{input, metricsOf};
-ghost use Rattle.c_interface.specs.Entry.{Narrow, Numbers, MetricsEntry, seen, decoded, oddCounts, halves, entryFaults, metricsWords};
-use byte_numbers::read_u16s;
-use byte_numbers::write_u32s;
-use duplex_metrics::Metrics;
-use duplex_metrics::MetricsLengths;
-use duplex_metrics::MetricsRecord;
-use duplex_metrics::counted;
-use duplex_metrics::duplex_metrics;
-use duplex_metrics::metrics_refusal;
+ghost use mathlib.Core.Bool.{_||_};
+ghost use Rattle.duplex_metrics.specs.Metrics.{input};
+ghost use Rattle.record_bytes.specs.Outputs.{recordBytes};
+ghost use Rattle.metrics_bytes.specs.Bytes.{seen, MetricsEntry};
+ghost use Rattle.c_interface.specs.Entry.{yes, told, annotationOf, wrongPattern, strandGiven, recordFor, ConsensusEntry};
+use consensus_bytes::duplex_consensus_bytes;
+use duplex_kind::DuplexConsensus;
+use methylation::Annotation;
+use methylation::ConversionPattern;
+use metrics_bytes::metrics_of_bytes;
 use refusals::BROKEN;
-use refusals::OUTPUT_TOO_SHORT;
-use refusals::refuse_if;
 
-// The bytes of a metrics record: ten numbers of four bytes.
-pub const METRICS_BYTES: usize = 40;
-
-fn write_record(r: MetricsRecord, out: &mut [u8])
-    requires { ⌜ (Numbers r) × (40 ≤ length (now out)) ⌝ }
-    ensures { λ _. ⌜ now (out .exit) ≡ put (bytes32 (metricsWords r)) (now (out .entry)) ⌝ }
-{
-    let words = [
-        r.aD,
-        r.aM,
-        f32::to_bits(r.aE),
-        r.bD,
-        r.bM,
-        f32::to_bits(r.bE),
-        r.cD,
-        r.cM,
-        f32::to_bits(r.cE),
-        r.nc,
-    ];
-    write_u32s(&words, out);
+// What a duplex record is: `refused` is the refusal's number, 0 for none; kind 0 is no record, 1 strand A alone, 2 strand B alone,
+// 3 both.
+#[repr(C)]
+pub struct DuplexRecord {
+    pub refused: u8,
+    pub kind: u8,
+    pub positions: usize,
 }
 
-// The library's call on the decoded numbers.
-fn decoded_metrics(
-    a_depths: &[u8],
-    a_errors: &[u8],
-    second: bool,
-    b_depths: &[u8],
-    b_errors: &[u8],
-    bases: &[u8],
-    errors: &[u8],
-) -> Metrics
-    requires { ⌜ Narrow (input (now «a_depths») (now «a_errors») second (now «b_depths») (now «b_errors») (now bases) (now errors)) ⌝ }
-    ensures { λ r. ⌜ r ≡ metricsOf (decoded (input (now («a_depths» .entry)) (now («a_errors» .entry)) second (now («b_depths» .entry)) (now («b_errors» .entry)) (now (bases .entry)) (now (errors .entry)))) ⌝ }
+fn annotation_of(annotated: bool, pattern: u8) -> Annotation
+    ensures { λ r. ⌜ r ≡ annotationOf annotated pattern ⌝ }
 {
-    let mut a = [0; 1024];
-    let mut a_wrong = [0; 1024];
-    let mut b = [0; 1024];
-    let mut b_wrong = [0; 1024];
-    let mut wrong = [0; 1024];
-    read_u16s(a_depths, &mut a);
-    read_u16s(a_errors, &mut a_wrong);
-    read_u16s(b_depths, &mut b);
-    read_u16s(b_errors, &mut b_wrong);
-    read_u16s(errors, &mut wrong);
-    duplex_metrics(
-        &a[0..a_depths.len() / 2],
-        &a_wrong[0..a_errors.len() / 2],
-        second,
-        &b[0..b_depths.len() / 2],
-        &b_wrong[0..b_errors.len() / 2],
-        bases,
-        &wrong[0..errors.len() / 2],
-    )
+    if annotated {
+        if pattern == 0 {
+            return Annotation::Of(ConversionPattern::CToT);
+        }
+        return Annotation::Of(ConversionPattern::GToA);
+    }
+    Annotation::Absent
 }
 
-fn odd(n: usize) -> bool
-    ensures { λ r. ⌜ r ≡ oddCount n ⌝ }
+// Row 13's condition for a pattern.
+fn wrong_pattern(annotated: bool, pattern: u8) -> bool
+    ensures { λ r. ⌜ r ≡ wrongPattern annotated pattern ⌝ }
 {
-    n % 2 != 0
+    annotated & (1 < pattern)
 }
 
-// Row 13's condition, for byte counts.
-fn odd_counts(n: MetricsLengths) -> bool
-    ensures { λ r. ⌜ r ≡ oddCounts n ⌝ }
+fn record_for(answer: DuplexConsensus) -> DuplexRecord
+    ensures { λ r. ⌜ r ≡ recordFor answer ⌝ }
 {
-    odd(n.a) | (odd(n.aErrors) | (odd(n.b) | (odd(n.bErrors) | odd(n.errors))))
-}
-
-// How many numbers, and bases, so many bytes are.
-fn halved(n: MetricsLengths) -> MetricsLengths
-    ensures { λ r. ⌜ r ≡ halves n ⌝ }
-{
-    MetricsLengths {
-        a: n.a / 2,
-        aErrors: n.aErrors / 2,
-        second: n.second,
-        b: n.b / 2,
-        bErrors: n.bErrors / 2,
-        bases: n.bases,
-        errors: n.errors / 2,
+    match answer {
+        DuplexConsensus::Refused(number) => DuplexRecord {
+            refused: number,
+            kind: 0,
+            positions: 0,
+        },
+        DuplexConsensus::NoRecord => DuplexRecord {
+            refused: 0,
+            kind: 0,
+            positions: 0,
+        },
+        DuplexConsensus::Ab(n) => DuplexRecord {
+            refused: 0,
+            kind: 1,
+            positions: n,
+        },
+        DuplexConsensus::Ba(n) => DuplexRecord {
+            refused: 0,
+            kind: 2,
+            positions: n,
+        },
+        DuplexConsensus::Both(n) => DuplexRecord {
+            refused: 0,
+            kind: 3,
+            positions: n,
+        },
     }
 }
 
-// The number that refuses arrays of these byte counts and an output of this length, 0 for none.
-fn entry_refusal(n: MetricsLengths, out: usize) -> u8
-    ensures { λ r. ⌜ r ≡ refusal (entryFaults (oddCounts n) (halves n) out) ⌝ }
-{
-    let broken = odd_counts(n);
-    let inner = metrics_refusal(halved(n));
-    let number = refuse_if(0, broken, BROKEN);
-    let number = refuse_if(number, inner != 0, inner);
-    refuse_if(number, out < METRICS_BYTES, OUTPUT_TOO_SHORT)
-}
-
-// The entry, given what is looked at: an absent second strand is empty.
-fn write_metrics(
+// The duplex record of two strands, document 01's combination, as bytes. Of a strand that is not there nothing is looked at, and its
+// pattern and evidence only with an annotation; reads are a run of whole fields 30, looked at where they are listed. What is there,
+// annotated or listed is 0 for no, any other number for yes; a pattern is 0 for C to T, 1 for G to A. Refuses by 13, 7, 8, 9, then
+// by 12 for what is written.
+#[no_mangle]
+pub extern "C" fn gedrashiw_duplex_consensus(
+    a_present: u8,
+    a_annotated: u8,
+    a_pattern: u8,
+    a_bases: &[u8],
+    a_quals: &[u8],
     a_depths: &[u8],
     a_errors: &[u8],
-    second: bool,
+    a_evidence: &[u8],
+    b_present: u8,
+    b_annotated: u8,
+    b_pattern: u8,
+    b_bases: &[u8],
+    b_quals: &[u8],
     b_depths: &[u8],
     b_errors: &[u8],
-    bases: &[u8],
-    errors: &[u8],
-    out: &mut [u8],
-) -> u8
-    requires { ⌜ (second ≡ false → length (now «b_depths») ≡ 0) ⌝ }
-    requires { ⌜ (second ≡ false → length (now «b_errors») ≡ 0) ⌝ }
-    ensures { λ r. ⌜ MetricsEntry (input (now («a_depths» .entry)) (now («a_errors» .entry)) second (now («b_depths» .entry)) (now («b_errors» .entry)) (now (bases .entry)) (now (errors .entry))) (now (out .entry)) (now (out .exit)) r ⌝ }
+    b_evidence: &[u8],
+    listed: u8,
+    reads: &[u8],
+    bases_out: &mut [u8],
+    quals_out: &mut [u8],
+    errors_out: &mut [u8],
+    a_evidence_out: &mut [u8],
+    b_evidence_out: &mut [u8],
+) -> DuplexRecord
+    ensures { λ r. ⌜ ConsensusEntry
+        (wrongPattern (told «a_present» «a_annotated») «a_pattern» || wrongPattern (told «b_present» «b_annotated») «b_pattern»)
+        (strandGiven «a_present» «a_annotated» «a_pattern» (now («a_bases» .entry)) (now («a_quals» .entry)) (now («a_depths» .entry)) (now («a_errors» .entry)) (now («a_evidence» .entry)))
+        (strandGiven «b_present» «b_annotated» «b_pattern» (now («b_bases» .entry)) (now («b_quals» .entry)) (now («b_depths» .entry)) (now («b_errors» .entry)) (now («b_evidence» .entry)))
+        (yes listed) (now (reads .entry))
+        (recordBytes (now («bases_out» .entry)) (now («quals_out» .entry)) (now («errors_out» .entry)) (now («a_evidence_out» .entry)) (now («b_evidence_out» .entry)))
+        (recordBytes (now («bases_out» .exit)) (now («quals_out» .exit)) (now («errors_out» .exit)) (now («a_evidence_out» .exit)) (now («b_evidence_out» .exit)))
+        r ⌝ }
 {
-    let lengths = MetricsLengths {
-        a: a_depths.len(),
-        aErrors: a_errors.len(),
-        second,
-        b: b_depths.len(),
-        bErrors: b_errors.len(),
-        bases: bases.len(),
-        errors: errors.len(),
-    };
-    let number = entry_refusal(lengths, out.len());
-    if number != 0 {
-        return number;
+    let a_there = a_present != 0;
+    let b_there = b_present != 0;
+    let a_told = a_there & (a_annotated != 0);
+    let b_told = b_there & (b_annotated != 0);
+    if wrong_pattern(a_told, a_pattern) | wrong_pattern(b_told, b_pattern) {
+        return record_for(DuplexConsensus::Refused(BROKEN));
     }
-    let metrics = decoded_metrics(
+    record_for(duplex_consensus_bytes(
+        a_there,
+        annotation_of(a_told, a_pattern),
+        a_bases,
+        a_quals,
         a_depths,
         a_errors,
-        second,
+        a_evidence,
+        b_there,
+        annotation_of(b_told, b_pattern),
+        b_bases,
+        b_quals,
         b_depths,
         b_errors,
-        bases,
-        errors,
-    );
-    match metrics {
-        Metrics::Refused(refused) => refused,
-        Metrics::Of(record) => {
-            write_record(record, out);
-            0
-        }
-    }
+        b_evidence,
+        listed != 0,
+        reads,
+        bases_out,
+        quals_out,
+        errors_out,
+        a_evidence_out,
+        b_evidence_out,
+    ))
 }
 
 // The metrics of a record, document 01's "Metrics", as 40 bytes: aD, aM, aE, bD, bM, bE, cD, cM, cE, nc. Depths and errors are
@@ -178,17 +159,14 @@ pub extern "C" fn gedrashiw_metrics(
     errors: &[u8],
     out: &mut [u8],
 ) -> u8
-    ensures { λ r. ⌜ MetricsEntry (seen (input (now («a_depths» .entry)) (now («a_errors» .entry)) (not (eqb second 0)) (now («b_depths» .entry)) (now («b_errors» .entry)) (now (bases .entry)) (now (errors .entry)))) (now (out .entry)) (now (out .exit)) r ⌝ }
+    ensures { λ r. ⌜ MetricsEntry (seen (input (now («a_depths» .entry)) (now («a_errors» .entry)) (yes second) (now («b_depths» .entry)) (now («b_errors» .entry)) (now (bases .entry)) (now (errors .entry)))) (now (out .entry)) (now (out .exit)) r ⌝ }
 {
-    let present = second != 0;
-    let b_count = counted(present, b_depths.len());
-    let b_error_count = counted(present, b_errors.len());
-    write_metrics(
+    metrics_of_bytes(
         a_depths,
         a_errors,
-        present,
-        &b_depths[0..b_count],
-        &b_errors[0..b_error_count],
+        second != 0,
+        b_depths,
+        b_errors,
         bases,
         errors,
         out,

@@ -1,38 +1,9 @@
--- `c_interface::gedrashiw_metrics` meets its contract: an absent second strand is passed on empty. Assumes nothing.
-use mathlib.Core.Bool.{not}
-use borrow.Author.Needs.{needs}
-use denote.Ref.{now}
-use lib.Dec.{eqb}
-use Rattle.duplex_metrics.proofs.Few.{looked-at}
-use Rattle.c_interface.proofs.Entry.{none-taken}
+-- `c_interface::gedrashiw_metrics` meets its contract: the call on bytes. Assumes nothing.
 use Rattle.c_interface.proofs.gedrashiw_metrics.Statement.{statement}
 use Rattle.c_interface.proofs.gedrashiw_metrics.Tie as tie
 
-write-metrics-requires : tie.Need-write-metrics-requires
-write-metrics-requires c κs =
-    let counts = c .before .before .before in
-    (none-taken _ _ (counts .before .counted .ensures .0), none-taken _ _ (counts .counted2 .ensures .0))
-
 returns : tie.Need-returns
-returns c =
-    let called = c .before .before in
-    let counts = called .before .before .before .before in
-    let start = counts .before .before .before .before .before .before .before .before .before in
-    let present = not (eqb (start .args .second) 0) in
-    rw (looked-at present (now (start .args .b-depths)) (counts .before .counted .ensures .0), looked-at present (now (start .args .b-errors)) (counts .counted2 .ensures .0)) at (called .write-metrics .ensures)
+returns c = c .before .before .metrics-of-bytes .ensures
 
 pub gedrashiw-metrics-spec : {M : Type 1} → statement M
-gedrashiw-metrics-spec =
-    tie.close
-    (tie.spec
-    (λ c κs. tt)
-    (λ c κs. tt)
-    (λ c. search needs)
-    (λ c. search needs)
-    (λ c. search needs)
-    (λ c. search needs)
-    (λ c. search needs)
-    (λ c. search needs)
-    write-metrics-requires
-    (λ c. search needs)
-    returns)
+gedrashiw-metrics-spec = tie.close (tie.spec (λ c κs. tt) (λ c. c .before .out .given) returns)

@@ -1,0 +1,97 @@
+-- A duplex record as bytes: a base and a quality are one byte, errors two bytes a position, low byte first, evidence nine.
+use Prim.Native.Nat.{ℕ, _/_}
+use mathlib.Core.Path.{_≡_}
+use mathlib.Core.Bool.{Bool, false, cond}
+use mathlib.Core.List.{List, [], _∷_}
+use lib.ListN.{take}
+use Rattle.lists.specs.Output.{answer, after}
+use Rattle.refusals.specs.Refusal.{_if_, refusal}
+use Rattle.byte_numbers.specs.Bytes.{words16, bytes16}
+use Rattle.evidence_bytes.specs.Evidence.{marksOf, unconvertedOf, convertedOf, evidenceBytes}
+use Rattle.duplex_outputs.specs.Outputs.{RecordArrays, recordOf, recordLengths, recordTooShort}
+use Rattle.duplex_outputs.specs.declared.RecordLengths.{RecordLengths}
+use Rattle.duplex_kind.specs.declared.DuplexConsensus.{DuplexConsensus}
+use Rattle.duplex_kind.specs.declared.DuplexConsensus.the-variants.{Refused, NoRecord, Ab, Ba, Both}
+use Rattle.record_bytes.specs.declared.Written.{Written}
+
+-- The outputs of a record, and what is written to them.
+pub record RecordBytes : Type 0 where
+  pub bases : List ℕ
+  pub quals : List ℕ
+  pub errors : List ℕ
+  pub evidenceA : List ℕ
+  pub evidenceB : List ℕ
+
+abbrev pub recordBytes : List ℕ → List ℕ → List ℕ → List ℕ → List ℕ → RecordBytes
+recordBytes bases quals errors evidenceA evidenceB = record { bases = bases; quals = quals; errors = errors; evidenceA = evidenceA; evidenceB = evidenceB }
+
+-- The bytes of a record's arrays.
+abbrev pub asBytes : RecordArrays → RecordBytes
+asBytes r =
+    recordBytes (r .bases) (r .quals) (bytes16 (r .errors)) (evidenceBytes (r .marksA) (r .unconvertedA) (r .convertedA))
+    (evidenceBytes (r .marksB) (r .unconvertedB) (r .convertedB))
+
+-- The arrays that some bytes are: outputs of so many bytes hold so many numbers.
+unfoldable pub asArrays : RecordBytes → RecordArrays
+asArrays r =
+    recordOf (r .bases) (r .quals) (words16 (r .errors)) (marksOf (r .evidenceA)) (unconvertedOf (r .evidenceA)) (convertedOf (r .evidenceA))
+    (marksOf (r .evidenceB)) (unconvertedOf (r .evidenceB)) (convertedOf (r .evidenceB))
+
+-- What a call leaves there, where it was refused with a number (0: not refused) or else writes these bytes.
+pub record LeavesBytes (number : ℕ) (written before now : RecordBytes) : Type 0 where
+  pub bases : now .bases ≡ after number (written .bases) (before .bases)
+  pub quals : now .quals ≡ after number (written .quals) (before .quals)
+  pub errors : now .errors ≡ after number (written .errors) (before .errors)
+  pub evidenceA : now .evidenceA ≡ after number (written .evidenceA) (before .evidenceA)
+  pub evidenceB : now .evidenceB ≡ after number (written .evidenceB) (before .evidenceB)
+
+abbrev pub written : ℕ → Bool → Bool → Written
+written n first second = record { positions = n; first = first; second = second }
+
+-- How many positions are written of an answer, and whether evidence of the first strand and of the second, by the annotations of A
+-- and of B. A strand alone is the first.
+abbrev pub writtenOf : Bool → Bool → DuplexConsensus → Written
+writtenOf a b (Refused number) = written 0 false false
+writtenOf a b NoRecord = written 0 false false
+writtenOf a b (Ab n) = written n a false
+writtenOf a b (Ba n) = written n b false
+writtenOf a b (Both n) = written n a b
+
+-- Row 12's condition for it.
+unfoldable pub shortFor : Written → RecordArrays → Bool
+shortFor w out = recordTooShort (w .positions) (w .first) (w .second) (recordLengths out)
+
+abbrev pub outputsRefused : Written → RecordBytes → ℕ
+outputsRefused w out = refusal ((12 if shortFor w (asArrays out)) ∷ [])
+
+-- Where evidence is written, it is of every position.
+abbrev pub evidencePlaces : Bool → ℕ → ℕ
+evidencePlaces there n = cond there n 0
+
+-- What is written of some arrays: so many positions.
+abbrev pub fronts : Written → RecordArrays → RecordArrays
+fronts w r =
+    let n = w .positions in
+    let a = evidencePlaces (w .first) n in
+    let b = evidencePlaces (w .second) n in
+    recordOf (take n (r .bases)) (take n (r .quals)) (take n (r .errors)) (take a (r .marksA)) (take a (r .unconvertedA)) (take a (r .convertedA))
+    (take b (r .marksB)) (take b (r .unconvertedB)) (take b (r .convertedB))
+
+-- What a call answers and leaves, given the answer of the call that made these arrays and what it writes of them.
+pub record WrittenAs (w : Written) (made : DuplexConsensus) (arrays : RecordArrays) (before now : RecordBytes) (r : DuplexConsensus) : Type 0 where
+  pub answered : r ≡ answer Refused (outputsRefused w before) made
+  pub outputs : LeavesBytes (outputsRefused w before) (asBytes (fronts w arrays)) before now
+
+-- For the functions below the call: how many positions outputs of so many bytes hold.
+unfoldable pub positionsIn : ℕ → ℕ → ℕ → ℕ → ℕ → RecordLengths
+positionsIn bases quals errors a b = record {
+  bases = bases;
+  quals = quals;
+  errors = errors / 2;
+  marksA = a / 9;
+  unconvertedA = a / 9;
+  convertedA = a / 9;
+  marksB = b / 9;
+  unconvertedB = b / 9;
+  convertedB = b / 9;
+}
