@@ -1,271 +1,129 @@
-/* Calls gedrashiw_metrics as a C program does. Every array lies against unreadable pages: once it ends where a page ends, once
- * it starts where one starts, so that a read or write past either end stops the program. The whole output is compared, its
- * bytes past the written ones too. Expected values are those of the Rust in the fixed list, or written out here, or computed by
- * `expect`, which follows document 01. */
+/* Calls gedrashiw_metrics as a C program does. Every array lies against unreadable pages (guarded.h): once it ends where a page
+ * ends, once it starts where one starts. The whole output is compared, its bytes past the written ones too. Expected values are
+ * those of the Rust in the fixed list, or written out here, or reference.h's. */
 #define _DEFAULT_SOURCE
-#include "gedrashiw.h"
+#include "guarded.h"
+#include "reference.h"
 
-#include <stdio.h>
-#include <stdlib.h>
-#include <string.h>
-#include <sys/mman.h>
-#include <unistd.h>
+static struct block blocks[METRICS_INPUTS], output;
 
-static long checks, failures;
-
-/* One array of the call: pages of room between two unreadable ones. */
-struct block {
-    uint8_t *low; /* the first readable byte */
-    size_t room;
-    uint8_t *at; /* where the array is */
-    size_t len;
-};
-
-static struct block block_new(size_t room)
-{
-    size_t page = (size_t)sysconf(_SC_PAGESIZE);
-    struct block b = {NULL, (room + page - 1) / page * page, NULL, 0};
-    uint8_t *all = mmap(NULL, b.room + 2 * page, PROT_NONE, MAP_PRIVATE | MAP_ANONYMOUS, -1, 0);
-    if (all == MAP_FAILED || mprotect(all + page, b.room, PROT_READ | PROT_WRITE) != 0) {
-        perror("mmap");
-        exit(2);
-    }
-    b.low = all + page;
-    return b;
-}
-
-/* The array's place: ending at the end of the room, or starting at its start. */
-static void block_place(struct block *b, size_t len, int at_end)
-{
-    memset(b->low, 0x5a, b->room);
-    b->len = len;
-    b->at = at_end ? b->low + (b->room - len) : b->low;
-}
-
-enum { A, AE, B, BE, BASES, ERRORS, OUT, BLOCKS };
-static struct block blocks[BLOCKS];
-
-/* What a case gives: numbers for the five arrays, bases, and how many bytes of each are passed. */
+/* The bytes of the case in hand; a struct metrics_given has parts of them. */
 #define MOST 1100
-struct given {
-    uint16_t numbers[BLOCKS][MOST]; /* A, AE, B, BE, ERRORS */
-    uint8_t bases[MOST];
-    size_t bytes[BLOCKS];
-    uint8_t second;
-};
+static uint8_t store[METRICS_INPUTS][2 * MOST];
 
-struct wanted {
-    uint8_t answer;
-    uint32_t words[10];
-};
+static const int wide[] = {A_DEPTHS, A_ERRORS, B_DEPTHS, B_ERRORS, RECORD_ERRORS};
+enum { WIDE = sizeof wide / sizeof *wide };
 
-static const int wide[] = {A, AE, B, BE, ERRORS};
-
-static void fail(const char *name, const char *what)
+static void set(int k, size_t i, uint32_t n)
 {
-    failures++;
-    printf("%s: %s\n", name, what);
-}
-
-static uint8_t call(uint8_t second)
-{
-    return gedrashiw_metrics(blocks[A].at, blocks[A].len, blocks[AE].at, blocks[AE].len, second, blocks[B].at, blocks[B].len,
-                             blocks[BE].at, blocks[BE].len, blocks[BASES].at, blocks[BASES].len, blocks[ERRORS].at,
-                             blocks[ERRORS].len, blocks[OUT].at, blocks[OUT].len);
+    put_number(store[k] + 2 * i, n, 2);
 }
 
 /* Passes g with every array at one side of its room, and compares the answer, all of the output, and the inputs. */
-static void run_at(const char *name, const struct given *g, const struct wanted *w, int at_end)
+static void run_at(const char *name, const struct metrics_given *g, const struct metrics_wanted *w, int at_end)
 {
-    static uint8_t before[BLOCKS][8192], want_out[8192];
-    for (int k = 0; k < BLOCKS; k++)
-        block_place(&blocks[k], g->bytes[k], at_end);
-    for (size_t j = 0; j < sizeof wide / sizeof *wide; j++)
-        for (size_t i = 0; i < g->bytes[wide[j]]; i++)
-            blocks[wide[j]].at[i] = (uint8_t)(g->numbers[wide[j]][i / 2] >> (i % 2 * 8));
-    memcpy(blocks[BASES].at, g->bases, g->bytes[BASES]);
-    for (size_t i = 0; i < g->bytes[OUT]; i++)
-        blocks[OUT].at[i] = (uint8_t)(0xa0 + i * 7);
-    for (int k = 0; k < BLOCKS; k++)
-        memcpy(before[k], blocks[k].low, blocks[k].room);
-    memcpy(want_out, blocks[OUT].low, blocks[OUT].room);
-    if (w->answer == 0)
-        for (size_t i = 0; i < 40; i++)
-            want_out[(size_t)(blocks[OUT].at - blocks[OUT].low) + i] = (uint8_t)(w->words[i / 4] >> (i % 4 * 8));
+    struct metrics_given placed = *g;
+    for (int k = 0; k < METRICS_INPUTS; k++) {
+        block_input(&blocks[k], g->in[k].at, g->in[k].len, at_end);
+        placed.in[k].at = blocks[k].at;
+    }
+    block_output(&output, g->room, at_end);
+    for (int k = 0; w->refused == 0 && k < 10; k++)
+        put_number(block_noted(&output) + 4 * k, w->words[k], 4);
 
-    uint8_t answer = call(g->second);
+    uint8_t answer = metrics_call(&placed, output.at);
 
     checks++;
-    if (answer != w->answer) {
-        printf("%s: answered %u, expected %u\n", name, answer, w->answer);
+    if (answer != w->refused) {
+        printf("%s: answered %u, expected %u\n", name, answer, w->refused);
         failures++;
     }
-    checks++;
-    if (memcmp(blocks[OUT].low, want_out, blocks[OUT].room) != 0) {
-        fail(name, "the output is not as expected");
-        for (size_t i = 0; answer == 0 && i < 40; i += 4)
-            printf("  %u: %02x%02x%02x%02x, expected %08x\n", (unsigned)i, blocks[OUT].at[i + 3], blocks[OUT].at[i + 2],
-                   blocks[OUT].at[i + 1], blocks[OUT].at[i], (unsigned)w->words[i / 4]);
-    }
-    for (int k = 0; k < OUT; k++) {
-        checks++;
-        if (memcmp(blocks[k].low, before[k], blocks[k].room) != 0)
-            fail(name, "an input was written to");
-    }
+    check(name, block_as_noted(&output), "the output is not as expected");
+    if (answer == 0 && !block_as_noted(&output))
+        for (int k = 0; k < 10; k++)
+            printf("  %d: %08x, expected %08x\n", 4 * k, (unsigned)number_at(output.at + 4 * k, 4), (unsigned)w->words[k]);
+    for (int k = 0; k < METRICS_INPUTS; k++)
+        check(name, block_as_noted(&blocks[k]), "an input was written to");
 }
 
-static void run(const char *name, const struct given *g, const struct wanted *w)
+static void run(const char *name, const struct metrics_given *g, const struct metrics_wanted *w)
 {
     run_at(name, g, w, 1);
     run_at(name, g, w, 0);
 }
 
-/* ---- document 01, a second time */
-
-static uint32_t cap(uint16_t n)
-{
-    return n > 32767 ? 32767 : n;
-}
-
-/* The bits of e / d, each first the nearest binary32: what a C compiler makes of it. */
-static uint32_t rate(uint64_t e, uint64_t d)
-{
-    float r = d == 0 ? 0.0f : (float)e / (float)d;
-    uint32_t bits;
-    memcpy(&bits, &r, 4);
-    return bits;
-}
-
-static uint32_t depth_at(const struct given *g, int k, size_t i)
-{
-    return i < g->bytes[k] / 2 ? cap(g->numbers[k][i]) : 0;
-}
-
-/* D, M and E of the depths of one or two strands over n positions, and the errors at k. */
-static void figures(const struct given *g, int one, int two, size_t n, int k, uint32_t *words)
-{
-    uint32_t largest = 0, smallest = 0;
-    uint64_t depths = 0, errors = 0;
-    for (size_t i = 0; i < n; i++) {
-        uint32_t d = depth_at(g, one, i) + (two < 0 ? 0 : depth_at(g, two, i));
-        largest = d > largest ? d : largest;
-        smallest = i == 0 || d < smallest ? d : smallest;
-        depths += d;
-    }
-    for (size_t i = 0; i < g->bytes[k] / 2; i++)
-        errors += cap(g->numbers[k][i]);
-    words[0] = largest;
-    words[1] = smallest;
-    words[2] = rate(errors, depths);
-}
-
-static struct wanted expect(const struct given *g)
-{
-    struct wanted w = {0, {0}};
-    int second = g->second != 0;
-    int odd = 0, too_long = g->bytes[BASES] > 1024, ragged;
-    for (size_t j = 0; j < sizeof wide / sizeof *wide; j++) {
-        if (!second && (wide[j] == B || wide[j] == BE))
-            continue;
-        odd |= g->bytes[wide[j]] % 2 != 0;
-        too_long |= g->bytes[wide[j]] / 2 > 1024;
-    }
-    ragged = g->bytes[A] / 2 != g->bytes[AE] / 2 || g->bytes[BASES] != g->bytes[ERRORS] / 2 ||
-             (second && g->bytes[B] / 2 != g->bytes[BE] / 2);
-    w.answer = odd ? 13 : too_long ? 7 : ragged ? 8 : g->bytes[OUT] < 40 ? 12 : 0;
-    if (w.answer != 0)
-        return w;
-    figures(g, A, -1, g->bytes[A] / 2, AE, w.words);
-    if (second)
-        figures(g, B, -1, g->bytes[B] / 2, BE, w.words + 3);
-    figures(g, A, second ? B : -1, g->bytes[BASES], ERRORS, w.words + 6);
-    for (size_t i = 0; i < g->bytes[BASES]; i++)
-        w.words[9] += g->bases[i] == 'N';
-    return w;
-}
-
 /* ---- cases */
 
-static struct given fresh(size_t a, size_t b, size_t record)
+static struct metrics_given fresh(size_t a, size_t b, size_t record)
 {
-    static struct given g;
-    memset(&g, 0, sizeof g);
-    g.second = 1;
-    g.bytes[A] = g.bytes[AE] = 2 * a;
-    g.bytes[B] = g.bytes[BE] = 2 * b;
-    g.bytes[BASES] = record;
-    g.bytes[ERRORS] = 2 * record;
-    g.bytes[OUT] = 40;
+    struct metrics_given g = {{{0}}, 1, GEDRASHIW_METRICS_BYTES};
+    memset(store, 0, sizeof store);
+    for (int k = 0; k < METRICS_INPUTS; k++)
+        g.in[k].at = store[k];
+    g.in[A_DEPTHS].len = g.in[A_ERRORS].len = 2 * a;
+    g.in[B_DEPTHS].len = g.in[B_ERRORS].len = 2 * b;
+    g.in[RECORD_BASES].len = record;
+    g.in[RECORD_ERRORS].len = 2 * record;
     return g;
 }
 
-static uint32_t seed = 20240607;
-
-static uint32_t chance(void)
-{
-    seed = seed * 1664525u + 1013904223u;
-    return seed >> 8;
-}
-
-static void fill(struct given *g, uint32_t most)
+static void fill(uint32_t most)
 {
     for (size_t i = 0; i < MOST; i++) {
-        for (size_t j = 0; j < sizeof wide / sizeof *wide; j++)
-            g->numbers[wide[j]][i] = (uint16_t)(chance() % (most + 1));
-        g->bases[i] = (uint8_t) "ACGTNn"[chance() % 6];
+        for (int j = 0; j < WIDE; j++)
+            set(wide[j], i, chance() % (most + 1));
+        store[RECORD_BASES][i] = (uint8_t) "ACGTNn"[chance() % 6];
     }
 }
 
-static void expected(const char *name, const struct given *g)
+static void expected(const char *name, const struct metrics_given *g)
 {
-    struct wanted w = expect(g);
+    struct metrics_wanted w = metrics_expected(g);
     run(name, g, &w);
 }
 
-static void answers(const char *name, const struct given *g, uint8_t answer)
+static void answers(const char *name, const struct metrics_given *g, uint8_t answer)
 {
-    struct wanted w = expect(g);
-    checks++;
-    if (w.answer != answer)
-        fail(name, "the two expectations differ");
-    w.answer = answer;
+    struct metrics_wanted w = metrics_expected(g);
+    check(name, w.refused == answer, "the two expectations differ");
+    w.refused = answer;
     run(name, g, &w);
 }
 
 static void worked_examples(void)
 {
-    struct given g = fresh(4, 4, 4);
-    for (int i = 0; i < 4; i++) {
-        g.numbers[A][i] = 2;
-        g.numbers[B][i] = 1;
+    struct metrics_given g = fresh(4, 4, 4);
+    for (size_t i = 0; i < 4; i++) {
+        set(A_DEPTHS, i, 2);
+        set(B_DEPTHS, i, 1);
+        set(RECORD_ERRORS, i, i / 2);
     }
-    memcpy(g.bases, "ACNN", 4);
-    g.numbers[ERRORS][2] = g.numbers[ERRORS][3] = 1;
-    struct wanted both = {0, {2, 2, 0, 1, 1, 0, 3, 3, 0x3e2aaaab, 2}};
+    memcpy(store[RECORD_BASES], "ACNN", 4);
+    struct metrics_wanted both = {0, {2, 2, 0, 1, 1, 0, 3, 3, 0x3e2aaaab, 2}};
     run("document 01", &g, &both);
     g.second = 255;
     run("second is 255", &g, &both);
-    g.bytes[OUT] = 57;
+    g.room = 57;
     run("more room", &g, &both);
 
     g.second = 0;
-    struct wanted one = {0, {2, 2, 0, 0, 0, 0, 2, 2, 0x3e800000, 2}}; /* 2 errors over 8 */
+    struct metrics_wanted one = {0, {2, 2, 0, 0, 0, 0, 2, 2, 0x3e800000, 2}}; /* 2 errors over 8 */
     run("no second strand", &g, &one);
-    g.bytes[B] = 7;
+    g.in[B_DEPTHS].len = 7;
     run("its bytes are not looked at", &g, &one);
-    g.bytes[B] = 2 * 1025;
-    g.bytes[BE] = 1;
+    g.in[B_DEPTHS].len = 2 * 1025;
+    g.in[B_ERRORS].len = 1;
     run("nor its lengths", &g, &one);
 
     g = fresh(1, 0, 1);
-    g.numbers[A][0] = 40000;
-    g.numbers[AE][0] = 0x0100; /* 256, not 1 */
-    g.bases[0] = 'n';
-    struct wanted capped = {0, {32767, 32767, 0x3c000100, 0, 0, 0, 32767, 32767, 0, 0}};
+    set(A_DEPTHS, 0, 40000);
+    set(A_ERRORS, 0, 0x0100); /* 256, not 1 */
+    store[RECORD_BASES][0] = 'n';
+    struct metrics_wanted capped = {0, {32767, 32767, 0x3c000100, 0, 0, 0, 32767, 32767, 0, 0}};
     run("capped", &g, &capped);
 
     g = fresh(0, 0, 0);
-    struct wanted none = {0, {0}};
+    struct metrics_wanted none = {0, {0}};
     run("no positions", &g, &none);
     g.second = 0;
     run("no positions, no second strand", &g, &none);
@@ -278,9 +136,9 @@ static void computed(void)
     for (size_t i = 0; i < 7; i++)
         for (size_t j = 0; j < 7; j++)
             for (size_t k = 0; k < 4; k++) {
-                struct given g = fresh(sizes[i], sizes[j], sizes[(i + j + k) % 7]);
-                fill(&g, mosts[k]);
-                g.bytes[OUT] = 40 + chance() % 9;
+                struct metrics_given g = fresh(sizes[i], sizes[j], sizes[(i + j + k) % 7]);
+                fill(mosts[k]);
+                g.room += chance() % 9;
                 expected("computed", &g);
                 g.second = 0;
                 expected("computed, no second strand", &g);
@@ -290,30 +148,31 @@ static void computed(void)
 static void refusals(void)
 {
     static const char *const names[] = {"a_depths", "a_errors", "b_depths", "b_errors", "bases", "errors"};
-    struct given g = fresh(1024, 1024, 1024);
-    fill(&g, 65535);
+    struct metrics_given g = fresh(1024, 1024, 1024);
+    fill(65535);
     answers("1,024 positions", &g, 0);
-    for (int k = A; k < OUT; k++) {
+    for (int k = 0; k < METRICS_INPUTS; k++) {
+        size_t step = k == RECORD_BASES ? 1 : 2;
         g = fresh(1024, 1024, 1024);
-        g.bytes[k] += k == BASES ? 1 : 2;
+        g.in[k].len += step;
         answers(names[k], &g, 7);
         g = fresh(5, 5, 5);
-        g.bytes[k] += k == BASES ? 1 : 2;
+        g.in[k].len += step;
         answers(names[k], &g, 8);
         g = fresh(5, 5, 5);
-        if (k == BASES)
+        if (k == RECORD_BASES)
             continue;
-        g.bytes[k] += 1;
+        g.in[k].len += 1;
         answers(names[k], &g, 13);
         g.second = 0;
-        answers(names[k], &g, k == B || k == BE ? 0 : 13);
+        answers(names[k], &g, k == B_DEPTHS || k == B_ERRORS ? 0 : 13);
         g = fresh(5, 5, 5);
-        g.bytes[k] -= 1;
+        g.in[k].len -= 1;
         answers(names[k], &g, 13);
     }
     for (size_t n = 0; n <= 40; n++) {
         g = fresh(3, 3, 3);
-        g.bytes[OUT] = n;
+        g.room = n;
         answers("a short output", &g, n < 40 ? 12 : 0);
     }
 }
@@ -321,17 +180,17 @@ static void refusals(void)
 /* Faults at once: the first in the order 13, 7, 8, 12 is answered. */
 static void several(void)
 {
-    for (int set = 0; set < 16; set++) {
-        struct given g = fresh(4, 4, 4);
-        if (set & 1)
-            g.bytes[ERRORS] += 1;
-        if (set & 2)
-            g.bytes[A] = g.bytes[AE] = 2 * 1025;
-        if (set & 4)
-            g.bytes[BE] = 6;
-        if (set & 8)
-            g.bytes[OUT] = 39;
-        answers("several faults", &g, set & 1 ? 13 : set & 2 ? 7 : set & 4 ? 8 : set & 8 ? 12 : 0);
+    for (int faults = 0; faults < 16; faults++) {
+        struct metrics_given g = fresh(4, 4, 4);
+        if (faults & 1)
+            g.in[RECORD_ERRORS].len += 1;
+        if (faults & 2)
+            g.in[A_DEPTHS].len = g.in[A_ERRORS].len = 2 * 1025;
+        if (faults & 4)
+            g.in[B_ERRORS].len = 6;
+        if (faults & 8)
+            g.room = 39;
+        answers("several faults", &g, faults & 1 ? 13 : faults & 2 ? 7 : faults & 4 ? 8 : faults & 8 ? 12 : 0);
     }
 }
 
@@ -339,43 +198,32 @@ static void several(void)
 
 enum { METRICS_CALL = 29 };
 
-static uint32_t number_at(const uint8_t *at, int bytes)
-{
-    uint32_t n = 0;
-    for (int i = bytes - 1; i >= 0; i--)
-        n = n << 8 | at[i];
-    return n;
-}
-
 /* The fields of a vector of the metrics, in the order of the call: depths, errors, second, depths, errors, bases, errors. */
-static struct given from_vector(const uint8_t *body)
+static struct metrics_given from_vector(const uint8_t *body)
 {
-    static const int field[] = {A, AE, -1, B, BE, BASES, ERRORS};
-    struct given g = fresh(0, 0, 0);
+    static const int field[] = {A_DEPTHS, A_ERRORS, -1, B_DEPTHS, B_ERRORS, RECORD_BASES, RECORD_ERRORS};
+    struct metrics_given g = fresh(0, 0, 0);
     for (int k = 0; k < 7; k++) {
         const uint8_t *from = body + number_at(body + 8 * k, 4);
         size_t count = number_at(body + 8 * k + 4, 2);
         if (count > MOST)
             exit(2);
-        if (field[k] == -1)
+        if (field[k] == -1) {
             g.second = from[0];
-        else if (field[k] == BASES)
-            memcpy(g.bases, from, count);
-        else
-            for (size_t i = 0; i < count; i++)
-                g.numbers[field[k]][i] = (uint16_t)number_at(from + 2 * i, 2);
-        if (field[k] != -1)
-            g.bytes[field[k]] = field[k] == BASES ? count : 2 * count;
+            continue;
+        }
+        g.in[field[k]].len = field[k] == RECORD_BASES ? count : 2 * count;
+        memcpy(store[field[k]], from, g.in[field[k]].len);
     }
     return g;
 }
 
-static struct wanted from_line(const char *line)
+static struct metrics_wanted from_line(const char *line)
 {
-    struct wanted w = {0, {0}};
+    struct metrics_wanted w = {0, {0}};
     unsigned refused;
     if (sscanf(line, "29 refused %u", &refused) == 1) {
-        w.answer = (uint8_t)refused;
+        w.refused = (uint8_t)refused;
         return w;
     }
     uint32_t *n = w.words;
@@ -401,14 +249,12 @@ static void fixed_list(const char *vectors, const char *lines)
             exit(2);
         if (head[0] != METRICS_CALL)
             continue;
-        struct given g = from_vector(body);
-        struct wanted w = from_line(line);
+        struct metrics_given g = from_vector(body);
+        struct metrics_wanted w = from_line(line);
         run("the fixed list", &g, &w);
         compared++;
     }
-    checks++;
-    if (compared == 0)
-        fail(vectors, "has no vector of the metrics");
+    check(vectors, compared > 0, "has no vector of the metrics");
     fclose(v);
     fclose(l);
 }
@@ -416,8 +262,9 @@ static void fixed_list(const char *vectors, const char *lines)
 /* With the files of vectors and lines as words. */
 int main(int words, char **word)
 {
-    for (int k = 0; k < BLOCKS; k++)
+    for (int k = 0; k < METRICS_INPUTS; k++)
         blocks[k] = block_new(2 * MOST);
+    output = block_new(2 * MOST);
     if (words == 3)
         fixed_list(word[1], word[2]);
     else
@@ -426,6 +273,6 @@ int main(int words, char **word)
     computed();
     refusals();
     several();
-    printf("%ld checks, %ld failures\n", checks, failures);
+    printf("gedrashiw_metrics: %ld checks, %ld failures\n", checks, failures);
     return failures == 0 ? 0 : 1;
 }
