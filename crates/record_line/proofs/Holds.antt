@@ -1,12 +1,13 @@
 -- What a line holds, by what an answer is and which arrays it is of. Assumes nothing.
 use mathlib.Core.Path.{_≡_, ap, subst}
-use mathlib.Core.Bool.{Bool}
+use mathlib.Core.Bool.{Bool, true, false}
 use mathlib.Core.List.{List, []}
 use Prim.Native.Nat.{ℕ, _≤_}
 use native.Mathlib.Omega.{arith}
 use lib.ListN.{length, take, length-take}
 use Rattle.duplex_kind.specs.declared.DuplexConsensus.{DuplexConsensus}
 use Rattle.duplex_reads.specs.declared.Gate.{Gate}
+use Rattle.duplex_reads.specs.declared.Gate.the-variants.{Kept, Below}
 use Rattle.duplex_gate.specs.ConsensusGate.{consensusGate}
 use Rattle.duplex_metrics.specs.Metrics.{Input, input, metricsOf}
 use Rattle.metrics_bits.specs.Bits.{metricsWords}
@@ -28,6 +29,14 @@ module _ (made : DuplexConsensus) (bases quals errors : List ℕ) {r : Line} whe
   pub by-gate : (metrics : MetricsWords) {gate : Gate} (is : Gate) → gate ≡ is → HoldsOf (gatedText made is metrics bases quals errors) bases quals errors r → HoldsOf (gatedText made gate metrics bases quals errors) bases quals errors r
   by-gate metrics is e h = rw e h
 
+  pub is-kept : (metrics : MetricsWords) {gate : Gate} → gate ≡ Kept → HoldsOf (measuredText made true metrics bases quals errors) bases quals errors r → HoldsOf (gatedText made gate metrics bases quals errors) bases quals errors r
+  unfolding gatedText
+  is-kept metrics e h = by-gate metrics Kept e h
+
+  pub is-below : (metrics : MetricsWords) {gate : Gate} → gate ≡ Below → HoldsOf (measuredText made false metrics bases quals errors) bases quals errors r → HoldsOf (gatedText made gate metrics bases quals errors) bases quals errors r
+  unfolding gatedText
+  is-below metrics e h = by-gate metrics Below e h
+
 -- A record's line from the fronts of its arrays and of its own strands.
 module _ (made : DuplexConsensus) (n : ℕ) (x : Input) (quals thresholds : List ℕ) where
   pub record Fronts (a a-errors b b-errors bases quals-front errors : List ℕ) (gate : Gate) (metrics : MetricsWords) : Type 0 where
@@ -44,7 +53,7 @@ module _ (made : DuplexConsensus) (n : ℕ) (x : Input) (quals thresholds : List
   module _ {a a-errors b b-errors bases quals-front errors : List ℕ} {gate : Gate} {metrics : MetricsWords} (f : Fronts a a-errors b b-errors bases quals-front errors gate metrics) where
     same-text : gatedText made gate metrics bases quals-front errors ≡ recordText made n x quals thresholds
     unfolding recordText
-    same-text = cc
+    same-text = rw (f .gate-is, f .metrics-is, f .a-is, f .a-errors-is, f .b-is, f .b-errors-is, f .bases-is, f .quals-is, f .errors-is)
 
     short : Short (x .bases) quals (x .errors) → Short bases quals-front errors
     short s = record {

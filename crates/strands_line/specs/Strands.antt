@@ -7,22 +7,19 @@ use lib.ListN.{replicate}
 use Rattle.lists.specs.Output.{answer, after}
 use Rattle.byte_numbers.specs.Bytes.{words16}
 use Rattle.strand_bytes.specs.Strand.{StrandBytes, strandOf}
-use Rattle.duplex_outputs.specs.Outputs.{RecordArrays, recordOf}
+use Rattle.duplex_outputs.specs.Outputs.{RecordArrays}
 use Rattle.duplex_kind.specs.Kind.{kindOf}
 use Rattle.duplex_kind.specs.declared.DuplexConsensus.{DuplexConsensus}
 use Rattle.duplex_kind.specs.declared.DuplexConsensus.the-variants.{Refused}
-use Rattle.duplex_bytes.specs.Bytes.{seen, bytesRefused, bytesRecord}
+use Rattle.duplex_bytes.specs.Bytes.{seen, inputsRefused, bytesRecord}
 use Rattle.record_line.specs.Line.{answerText}
 
 unfoldable pub zeros : List ℕ
 zeros = replicate 1024 0
 
-abbrev pub buffers : RecordArrays
-buffers = recordOf zeros zeros zeros zeros zeros zeros zeros zeros zeros
-
--- The number that refuses the call, 0 for none.
+-- The number that refuses the call, 0 for none. The outputs are long enough for every record.
 abbrev pub numberOf : StrandBytes → StrandBytes → Bool → List ℕ → ℕ
-numberOf a b listed run = bytesRefused (seen a) (seen b) listed run buffers
+numberOf a b listed run = inputsRefused (seen a) (seen b) listed run
 
 abbrev pub answerOf : StrandBytes → StrandBytes → Bool → List ℕ → DuplexConsensus
 answerOf a b listed run = answer Refused (numberOf a b listed run) (kindOf (strandOf (seen a)) (strandOf (seen b)))

@@ -1,7 +1,7 @@
 -- `record_line::gated_line` meets its contract: by what the gate is. Assumes nothing.
 use borrow.Author.Needs.{needs}
 use Rattle.record_line.specs.Line.{gatedText}
-use Rattle.record_line.proofs.Holds.{of-any, by-gate}
+use Rattle.record_line.proofs.Holds.{of-any, by-gate, is-kept, is-below}
 use Rattle.record_line.proofs.gated_line.Statement.{statement}
 use Rattle.record_line.proofs.gated_line.Tie as tie
 
@@ -10,12 +10,10 @@ unfolding gatedText
 returns c = by-gate _ _ _ _ _ _ (c .before .before .gate .given .1) (of-any _ _ _ (c .refused-line .ensures))
 
 returns-2 : tie.Need-returns-2
-unfolding gatedText
-returns-2 c = by-gate _ _ _ _ _ _ (c .before .enum-told .given .1) (c .measured-line .ensures)
+returns-2 c = is-kept _ _ _ _ _ (c .before .enum-told .given .1) (c .measured-line .ensures)
 
 returns-3 : tie.Need-returns-3
-unfolding gatedText
-returns-3 c = by-gate _ _ _ _ _ _ (c .before .enum-told2 .given .1) (c .measured-line2 .ensures)
+returns-3 c = is-below _ _ _ _ _ (c .before .enum-told2 .given .1) (c .measured-line2 .ensures)
 
 pub gated-line-spec : {M : Type 1} → statement M
 gated-line-spec =
