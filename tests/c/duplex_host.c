@@ -1,238 +1,10 @@
-/* Calls gedrashiw_duplex_consensus as a C program does. Every array lies against unreadable pages (guarded.h): once it ends where a
- * page ends, once it starts where one starts. After every call each output is compared whole, its places past the record too, and
- * each input with what it was. Expected values are a reference's over the Rust in the fixed list, or written out here, or
- * reference.h's, which must agree with both. */
+/* Calls gedrashiw_duplex_consensus as a C program does (duplex_case.h says how, and what is compared). Expected values are those of
+ * a reference over the Rust in the fixed list, or written out here, or reference.h's, which must agree with both. */
 #define _DEFAULT_SOURCE
-#include "guarded.h"
+#include "duplex_case.h"
 #include "molecule.h"
 
-static struct block inputs[DUPLEX_INPUTS], outputs[OUTPUTS];
-
-static const char *const output_names[OUTPUTS] = {"bases_out", "quals_out", "errors_out", "a_evidence_out", "b_evidence_out"};
-
-/* Passes g with every array at one side of its room; compares the answer, all of the outputs, and the inputs. */
-static void run_at(const char *name, const struct duplex_given *g, const struct duplex_wanted *w, int at_end)
-{
-    struct duplex_given placed = *g;
-    uint8_t *out[OUTPUTS];
-    for (int k = 0; k < DUPLEX_INPUTS; k++) {
-        struct array *in = duplex_input(&placed, k);
-        block_input(&inputs[k], in->at, in->len, at_end);
-        in->at = inputs[k].at;
-    }
-    for (int k = 0; k < OUTPUTS; k++) {
-        block_output(&outputs[k], g->room[k], at_end);
-        memcpy(block_noted(&outputs[k]), w->out[k], w->written[k]);
-        out[k] = outputs[k].at;
-    }
-
-    struct gedrashiw_duplex_record r = duplex_call(&placed, out);
-
-    checks++;
-    if (r.refused != w->refused || r.kind != w->kind || r.positions != w->positions) {
-        printf("%s: refused %u, kind %u, %zu positions; expected %u, %u, %zu\n", name, r.refused, r.kind, r.positions, w->refused,
-               w->kind, w->positions);
-        failures++;
-    }
-    for (int k = 0; k < OUTPUTS; k++) {
-        check(name, block_as_noted(&outputs[k]), output_names[k]);
-        for (size_t i = 0; i < g->room[k] && !block_as_noted(&outputs[k]); i++)
-            if (out[k][i] != block_noted(&outputs[k])[i]) {
-                printf("  byte %zu: %u, expected %u\n", i, out[k][i], block_noted(&outputs[k])[i]);
-                break;
-            }
-    }
-    for (int k = 0; k < DUPLEX_INPUTS; k++)
-        check(name, block_as_noted(&inputs[k]), "an input was written to");
-}
-
-static void run(const char *name, const struct duplex_given *g, const struct duplex_wanted *w)
-{
-    run_at(name, g, w, 1);
-    run_at(name, g, w, 0);
-}
-
-/* How often each answer was expected: kinds of records, and refusals. */
-static long kinds[4], refusals[16];
-
-static void tally(const struct duplex_wanted *w)
-{
-    if (w->refused != 0)
-        refusals[w->refused]++;
-    else
-        kinds[w->kind]++;
-}
-
-static void start_tally(void)
-{
-    memset(kinds, 0, sizeof kinds);
-    memset(refusals, 0, sizeof refusals);
-}
-
-/* Of the cases since, none is by chance left out. */
-static void all_occurred(const char *name, const int *rows, int count)
-{
-    for (int k = 0; k < 4; k++)
-        check(name, kinds[k] > 0, "a kind of record did not occur");
-    for (int k = 0; k < count; k++)
-        check(name, refusals[rows[k]] > 0, "a refusal did not occur");
-}
-
-static struct duplex_wanted reckoned; /* by reference.h */
-
-static void expected(const char *name, const struct duplex_given *g)
-{
-    duplex_expected(g, &reckoned);
-    tally(&reckoned);
-    run(name, g, &reckoned);
-}
-
-/* What is written out here must also be what reference.h says. */
-static void gives(const char *name, const struct duplex_given *g, const struct duplex_wanted *w)
-{
-    duplex_expected(g, &reckoned);
-    int same = reckoned.refused == w->refused && reckoned.kind == w->kind && reckoned.positions == w->positions;
-    for (int k = 0; k < OUTPUTS; k++)
-        same &= reckoned.written[k] == w->written[k] && memcmp(reckoned.out[k], w->out[k], sizeof w->out[k]) == 0;
-    check(name, same, "the two expectations differ");
-    run(name, g, w);
-}
-
-static void refuses(const char *name, const struct duplex_given *g, uint8_t number)
-{
-    static struct duplex_wanted w;
-    memset(&w, 0, sizeof w);
-    w.refused = number;
-    gives(name, g, &w);
-}
-
-/* Not refused: reference.h says what is written. */
-static void takes(const char *name, const struct duplex_given *g)
-{
-    duplex_expected(g, &reckoned);
-    check(name, reckoned.refused == 0, "refused, as reference.h has it");
-    run(name, g, &reckoned);
-}
-
-/* ---- a case: its bytes are here, and a struct duplex_given has parts of them */
-
-#define MOST 1100
-enum { MOST_READ_BYTES = 1 << 21 };
-static uint8_t store[2 * ARRAYS][9 * MOST], reads[MOST_READ_BYTES];
-
-static uint8_t *array_of(int strand, int k)
-{
-    return store[strand * ARRAYS + k];
-}
-
-static void set_room(struct duplex_given *g, size_t positions)
-{
-    for (int k = 0; k < OUTPUTS; k++)
-        g->room[k] = positions * out_width[k];
-}
-
-/* Two strands of so many positions: A, quality 30, depth 1, no errors, no annotation. */
-static struct duplex_given fresh(size_t a, size_t b)
-{
-    struct duplex_given g = {{{0}}, 0, {reads, 0}, {0}};
-    memset(store, 0, sizeof store);
-    for (int s = 0; s < 2; s++) {
-        size_t positions = s == 0 ? a : b;
-        g.strand[s].present = 1;
-        for (int k = 0; k < ARRAYS; k++) {
-            g.strand[s].of[k].at = array_of(s, k);
-            g.strand[s].of[k].len = k == EVIDENCE ? 0 : positions * width[k];
-        }
-        memset(array_of(s, BASES), 'A', MOST);
-        memset(array_of(s, QUALS), 30, MOST);
-        for (size_t i = 0; i < MOST; i++)
-            put_number(array_of(s, DEPTHS) + 2 * i, 1, 2);
-    }
-    set_room(&g, a > b ? a : b);
-    return g;
-}
-
-static void annotate(struct duplex_given *g, int s, uint8_t pattern)
-{
-    g->strand[s].annotated = 1;
-    g->strand[s].pattern = pattern;
-    g->strand[s].of[EVIDENCE].len = 9 * g->strand[s].of[BASES].len;
-}
-
-static void set_base(int s, size_t i, char base, uint8_t qual)
-{
-    array_of(s, BASES)[i] = (uint8_t)base;
-    array_of(s, QUALS)[i] = qual;
-}
-
-static void set_counts(int s, size_t i, uint32_t depth, uint32_t errors)
-{
-    put_number(array_of(s, DEPTHS) + 2 * i, depth, 2);
-    put_number(array_of(s, ERRORS) + 2 * i, errors, 2);
-}
-
-static void put_position(uint8_t *at, uint8_t mark, uint32_t unconverted, uint32_t converted)
-{
-    at[0] = mark;
-    put_number(at + 1, unconverted, 4);
-    put_number(at + 5, converted, 4);
-}
-
-static void set_evidence(int s, size_t i, uint8_t mark, uint32_t unconverted, uint32_t converted)
-{
-    put_position(array_of(s, EVIDENCE) + 9 * i, mark, unconverted, converted);
-}
-
-/* A read more, its bases by a text or, where there is none, all A. */
-static void add_read(struct duplex_given *g, uint32_t flags, const char *bases, size_t len)
-{
-    uint8_t *at = reads + g->reads.len;
-    if (g->reads.len + 5 + len > MOST_READ_BYTES || len + 2 > 65535)
-        exit(2);
-    at[0] = READ_TAG;
-    put_number(at + 1, (uint32_t)len + 2, 2);
-    put_number(at + 3, flags, 2);
-    if (bases == NULL)
-        memset(at + 5, 'A', len);
-    else
-        memcpy(at + 5, bases, len);
-    g->reads.len += 5 + len;
-    g->listed = 1;
-}
-
-static void read_of(struct duplex_given *g, uint32_t flags, const char *bases)
-{
-    add_read(g, flags, bases, strlen(bases));
-}
-
-/* ---- what is expected, written out */
-
-static struct duplex_wanted wanted;
-
-static struct duplex_wanted *want(uint8_t kind, const char *bases, const uint8_t *quals, const uint32_t *errors)
-{
-    memset(&wanted, 0, sizeof wanted);
-    wanted.kind = kind;
-    wanted.positions = strlen(bases);
-    for (int k = 0; k < A_EVIDENCE_OUT; k++)
-        wanted.written[k] = wanted.positions * out_width[k];
-    memcpy(wanted.out[BASES_OUT], bases, wanted.positions);
-    memcpy(wanted.out[QUALS_OUT], quals, wanted.positions);
-    for (size_t i = 0; i < wanted.positions; i++)
-        put_number(wanted.out[ERRORS_OUT] + 2 * i, errors[i], 2);
-    return &wanted;
-}
-
-/* Evidence is written, all of it clear but for what want_kept says. */
-static void want_evidence(int k)
-{
-    wanted.written[k] = 9 * wanted.positions;
-}
-
-static void want_kept(int k, size_t i, uint32_t unconverted, uint32_t converted)
-{
-    put_position(wanted.out[k] + 9 * i, 1, unconverted, converted);
-}
+/* ---- worked examples */
 
 /* One position of two strands, without annotation. */
 static void position(const char *name, char a, uint8_t a_qual, char b, uint8_t b_qual, char base, uint8_t qual, uint32_t errors)
@@ -584,6 +356,46 @@ static struct duplex_given sound(size_t positions)
     return g;
 }
 
+/* An array with a position more than it may have, or another number than the strand's others. */
+static void whole_positions(const char *name, int k)
+{
+    static const size_t longer[] = {1025, 1024, 6, 4, 0};
+    struct duplex_given g = sound(1024);
+    struct strand *s = &g.strand[k / ARRAYS];
+    struct array *in = &s->of[k % ARRAYS];
+    in->len += width[k % ARRAYS];
+    refuses(name, &g, 7);
+    for (int n = 0; n < 5; n++) {
+        g = sound(5);
+        in->len = longer[n] * width[k % ARRAYS];
+        refuses(name, &g, longer[n] == 1025 ? 7 : 8);
+        s->present = 0;
+        takes(name, &g);
+    }
+}
+
+/* An array whose last position is cut. */
+static void cut_positions(const char *name, int k)
+{
+    for (size_t more = 1; more < width[k % ARRAYS]; more++) {
+        struct duplex_given g = sound(5);
+        struct strand *s = &g.strand[k / ARRAYS];
+        struct array *in = &s->of[k % ARRAYS];
+        in->len += more;
+        refuses(name, &g, 13);
+        in->len -= width[k % ARRAYS];
+        refuses(name, &g, 13);
+        s->present = 0;
+        takes(name, &g);
+        s->present = 1;
+        s->annotated = 0;
+        if (k % ARRAYS == EVIDENCE)
+            takes(name, &g);
+        else
+            refuses(name, &g, 13);
+    }
+}
+
 static void each_array(void)
 {
     static const char *const names[] = {"a_bases", "a_quals", "a_depths", "a_errors", "a_evidence",
@@ -591,44 +403,8 @@ static void each_array(void)
     struct duplex_given g = sound(1024);
     takes("1,024 positions", &g);
     for (int k = 0; k < 2 * ARRAYS; k++) {
-        const char *name = names[k];
-        struct strand *s = &g.strand[k / ARRAYS];
-        struct array *in = &s->of[k % ARRAYS];
-        size_t wide = width[k % ARRAYS];
-        g = sound(1024);
-        in->len += wide;
-        refuses(name, &g, 7);
-        g = sound(5);
-        in->len = 1025 * wide;
-        refuses(name, &g, 7);
-        g = sound(5);
-        in->len = 1024 * wide;
-        refuses(name, &g, 8);
-        for (int by = -1; by <= 1; by += 2) {
-            g = sound(5);
-            in->len += (size_t)by * wide;
-            refuses(name, &g, 8);
-            s->present = 0;
-            takes(name, &g);
-        }
-        g = sound(5);
-        in->len = 0;
-        refuses(name, &g, 8);
-        for (size_t more = 1; more < wide; more++) {
-            g = sound(5);
-            in->len += more;
-            refuses(name, &g, 13);
-            in->len -= wide;
-            refuses(name, &g, 13);
-            s->present = 0;
-            takes(name, &g);
-            s->present = 1;
-            s->annotated = 0;
-            if (k % ARRAYS == EVIDENCE)
-                takes(name, &g);
-            else
-                refuses(name, &g, 13);
-        }
+        whole_positions(names[k], k);
+        cut_positions(names[k], k);
     }
     g = sound(1024);
     for (int k = 0; k < ARRAYS; k++)
@@ -865,14 +641,40 @@ static void say_entries(struct text *t, const struct duplex_given *g, const char
     say_record(t, r.kind, gate, r.positions, out[BASES_OUT], out[QUALS_OUT], out[ERRORS_OUT], words);
 }
 
+enum { COMPARED, UNSEEN, OF_THRESHOLDS };
+
+/* A molecule and its line. Answers whether they were compared, or why not. */
+static int compare_molecule(const char *name, const uint8_t *bytes, size_t len, const char *line)
+{
+    static struct text said;
+    struct molecule split;
+    unsigned refused = 0;
+    char gate[8] = "";
+    sscanf(line, "refused %u", &refused);
+    if (!split_molecule(bytes, len, &split)) {
+        check(name, refused == 13, "cannot be split");
+        return UNSEEN;
+    }
+    if (refused >= 1 && refused <= 4)
+        return OF_THRESHOLDS;
+    expected(name, &split.given);
+    sscanf(line, "%*s %7s", gate);
+    say_entries(&said, &split.given, gate);
+    checks++;
+    if (strcmp(said.at, line) != 0) {
+        failures++;
+        printf("%s: %sexpected: %s", name, said.at, line);
+    }
+    return COMPARED;
+}
+
 static void fixed_list(const char *molecules, const char *lines)
 {
     static const int rows[] = {7, 8, 9, 13};
     static uint8_t bytes[1 << 18];
-    static struct text said;
     uint8_t size[4];
-    char name[64], gate[8];
-    int number = 0, compared = 0, unseen = 0;
+    char name[64];
+    int number = 0, counts[3] = {0};
     FILE *m = fopen(molecules, "rb"), *l = fopen(lines, "r");
     if (m == NULL || l == NULL) {
         fail(molecules, "cannot be read");
@@ -883,34 +685,12 @@ static void fixed_list(const char *molecules, const char *lines)
         size_t len = number_at(size, 4);
         if (len > sizeof bytes || fread(bytes, 1, len, m) != len)
             exit(2);
-        const char *line = next_line(l);
-        unsigned refused = 0;
-        sscanf(line, "refused %u", &refused);
         snprintf(name, sizeof name, "the fixed list, molecule %d", ++number);
-        struct molecule split;
-        int can_split = split_molecule(bytes, len, &split);
-        /* What the entry does not see. */
-        if (!can_split) {
-            check(name, refused == 13, "cannot be split");
-            unseen++;
-        }
-        /* Thresholds are not its. */
-        if (!can_split || (refused >= 1 && refused <= 4))
-            continue;
-        expected(name, &split.given);
-        if (sscanf(line, "%*s %7s", gate) != 1)
-            strcpy(gate, "");
-        say_entries(&said, &split.given, gate);
-        checks++;
-        if (strcmp(said.at, line) != 0) {
-            failures++;
-            printf("%s: %sexpected: %s", name, said.at, line);
-        }
-        compared++;
+        counts[compare_molecule(name, bytes, len, next_line(l))]++;
     }
     all_occurred(molecules, rows, 4);
-    printf("the fixed list: %d molecules compared; %d refused as 13 by what no entry sees, %d by their thresholds\n", compared, unseen,
-           number - compared - unseen);
+    printf("the fixed list: %d molecules compared; %d refused as 13 by what no entry sees, %d by their thresholds\n",
+           counts[COMPARED], counts[UNSEEN], counts[OF_THRESHOLDS]);
     fclose(m);
     fclose(l);
 }
@@ -918,10 +698,7 @@ static void fixed_list(const char *molecules, const char *lines)
 /* With the files of encoded molecules and lines as words. */
 int main(int words, char **word)
 {
-    for (int k = 0; k < DUPLEX_INPUTS; k++)
-        inputs[k] = block_new(k == 2 * ARRAYS ? MOST_READ_BYTES : 9 * MOST);
-    for (int k = 0; k < OUTPUTS; k++)
-        outputs[k] = block_new(9 * MOST);
+    make_blocks();
     if (words == 3)
         fixed_list(word[1], word[2]);
     else

@@ -1,4 +1,5 @@
-/* An encoded molecule (document 01's tray) split into the arguments of the combination's entry, and a record as duplexline's line. */
+/* An encoded molecule (document 01's tray) split into the arguments of the combination's entry, and a record as duplexline's
+ * line. */
 #ifndef MOLECULE_H
 #define MOLECULE_H
 
@@ -50,8 +51,9 @@ static inline int known_tag(uint8_t tag)
            tag == LIST;
 }
 
-/* Splits some bytes; what follows the field 2F is the run of reads. Answers 0 where the bytes are refused by 13 for what the entry
- * does not see: it sees byte counts of a strand's arrays, patterns and a broken run (`duplex_broken`). Outputs have 1,024 places. */
+/* Splits some bytes; what follows the field 2F is the run of reads. Answers 0 where the bytes are refused by 13 for what the
+ * entry does not see: it sees byte counts of a strand's arrays, patterns and a broken run (`duplex_broken`). Outputs have 1,024
+ * places. */
 static inline int split_molecule(const uint8_t *bytes, size_t len, struct molecule *m)
 {
     struct array field[LIST + 1];

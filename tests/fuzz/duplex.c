@@ -1,6 +1,6 @@
-/* Fuzzes gedrashiw_duplex_consensus. The head of an input: what is present, annotated and listed, and the patterns; the positions of
- * each strand, the number of reads and the bases of their longest; a byte of the run to change, and how; a change of each array's
- * length, outputs counted from what is written; and the side at which arrays lie in the second call. */
+/* Fuzzes gedrashiw_duplex_consensus. The head of an input: what is present, annotated and listed, and the patterns; the
+ * positions of each strand, the number of reads and the bases of their longest; a byte of the run to change, and how; a change of
+ * each array's length, outputs counted from what is written; and the side at which arrays lie in the second call. */
 #define _DEFAULT_SOURCE
 #include "fuzz.h"
 
