@@ -4,6 +4,7 @@
 #include "fuzz.h"
 #include "molecule.h"
 
+#include <errno.h>
 #include <spawn.h>
 #include <sys/wait.h>
 
@@ -95,7 +96,12 @@ static void printed_text(const uint8_t *bytes, size_t len, struct text *t)
     posix_spawn_file_actions_adddup2(&actions, out, 1);
     demand(posix_spawn(&child, program, &actions, NULL, words, environ) == 0, "the program duplexline");
     posix_spawn_file_actions_destroy(&actions);
-    demand(waitpid(child, &status, 0) == child && WIFEXITED(status) && WEXITSTATUS(status) == 0, "exit status 0");
+    /* libFuzzer's clock interrupts the wait. */
+    pid_t ended;
+    do
+        ended = waitpid(child, &status, 0);
+    while (ended < 0 && errno == EINTR);
+    demand(ended == child && WIFEXITED(status) && WEXITSTATUS(status) == 0, "exit status 0");
     ssize_t got = pread(out, t->at, sizeof t->at, 0);
     demand(got >= 0, "its output");
     t->len = (size_t)got;
