@@ -13,7 +13,7 @@ use lib.Seq.{take-append-seam}
 use Rattle.lists.specs.Output.{answer, put}
 use Rattle.lists.specs.Part.{onlyIf}
 use Rattle.lists.specs.Table.{tabulate}
-use Rattle.lists.proofs.Output.{answer-refused, answer-passed, after-refused, after-passed}
+use Rattle.lists.proofs.Output.{answer-refused, answer-passed, after-refused, after-passed, after-none}
 use Rattle.lists.proofs.Table.{length-tabulate}
 use Rattle.refusals.specs.Refusal.{_if_, ragged, refusal}
 use Rattle.refusals.proofs.Refusal.{and-then}
@@ -33,7 +33,6 @@ use Rattle.duplex_kind.specs.declared.DuplexConsensus.{DuplexConsensus}
 use Rattle.duplex_kind.specs.declared.DuplexConsensus.the-variants.{Refused, NoRecord, Ab, Ba, Both}
 use Rattle.duplex_kind.proofs.Kind.{Passes, taken, is-ab, is-ba}
 use Rattle.duplex_record.specs.Record.{recordArrays, outputsShort, duplexFaults}
-use Rattle.duplex_record.proofs.Untouched.{after-none}
 use Rattle.read_run.specs.Run.{readsOf}
 use Rattle.strand_bytes.specs.Strand.{StrandBytes, strandOf}
 use Rattle.bytes_refusal.specs.Rows.{broken}

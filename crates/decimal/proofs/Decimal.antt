@@ -5,7 +5,7 @@
 --     few-digits                    a number below 10 to the power k has at most k digits
 --     only-digits                   each character of the text is a digit's
 --     value-decimal                 the text read back is the number
---     put-first, put-more           what an output holds when the first digit is stored, and one more
+--     put-first                     what an output holds when the first digit is stored
 -- Assumes nothing.
 use mathlib.Core.Path.{_≡_, refl, ap, _∙_}
 use mathlib.Core.Bool.{Bool, true, false, cond}
@@ -18,7 +18,7 @@ use lib.Dec.{ltb}
 use lib.ListN.{length, take, set, length-append, length-take}
 use lib.Seq.{take-nil, take-append-le, set-out}
 use Rattle.lists.specs.Output.{put}
-use Rattle.lists.proofs.Output.{length-put, put-snoc, put-fitting}
+use Rattle.lists.proofs.Output.{length-put, put-snoc, put-fitting, fitting-snoc}
 use Rattle.decimal.specs.Decimal.{digit, decimalIn, decimal, valueOf}
 
 -- P of each element.
@@ -84,22 +84,10 @@ few-digits (suc k) n h = go (ltb n 10) refl (λ large. few-digits k (n / 10) (te
     go true e rest = omega (arith, length-one n (ltb-true n 10 e))
     go false e rest = omega (arith, length-more n (ltb-false n 10 e), rest (ltb-false n 10 e))
 
--- general: for crates/lists. One more element is stored behind what was written as far as there was room.
-pub put-more : {A : Type 0} (xs out : List A) (v : A) → set (put (take (length out) xs) out) (length xs) v ≡ put (take (length out) (xs ++ v ∷ [])) out
-put-more {A} xs out v = go (ltb (length xs) (length out)) refl
-  where
-    go : (b : Bool) → ltb (length xs) (length out) ≡ b → set (put (take (length out) xs) out) (length xs) v ≡ put (take (length out) (xs ++ v ∷ [])) out
-    go true e =
-        let room = ltb-true (length xs) (length out) e in
-        rw (put-fitting xs out (omega arith), put-fitting (xs ++ v ∷ []) out (omega (arith, length-append xs (v ∷ [])))) (put-snoc xs out v room)
-    go false e =
-        let full = ltb-false (length xs) (length out) e in
-        rw (take-append-le (length out) xs (v ∷ []) full) (set-out (put (take (length out) xs) out) (length xs) v (omega (arith, length-put (take (length out) xs) out (omega (arith, length-take (length out) xs)))))
-
 -- The first digit is stored, where there is room for it.
 pub put-first : (n : ℕ) (out : List ℕ) → n < 10 → set out 0 (digit n) ≡ put (take (length out) (decimal n)) out
 unfolding put
-put-first n out h = rw (decimal-one n h) (simp take-nil at (put-more [] out (digit n)))
+put-first n out h = rw (decimal-one n h) (simp take-nil at (fitting-snoc [] out (digit n)))
 
 pub only-digits : (P : ℕ → Type 0) → ((d : ℕ) → d < 10 → P (digit d)) → (n : ℕ) → Each P (decimal n)
 only-digits P so = by-tenths (λ n. Each P (decimal n)) (λ n h. rw (decimal-one n h) (so n h, tt)) (λ n h rest. rw (decimal-more n h) (each-snoc (decimal (n / 10)) (digit (n % 10)) rest (so (n % 10) (omega arith))))

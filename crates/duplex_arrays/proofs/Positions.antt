@@ -1,9 +1,8 @@
 -- What the loops over positions write, element by element.
---     tabulated                     an element of a list given by a rule
 --     bases-length, quals-length, estimates-length
 --     base-at, qual-at, estimate-at
 --     without-calls                 where there may be no calls, neither strand is the C-to-T one
---     repeated, zeroed              one value so many times, by a rule; so many zeros filled in
+--     zeroed                        so many zeros filled in
 -- Assumes nothing.
 use mathlib.Core.Path.{_≡_, refl, sym, ap, _∙_}
 use mathlib.Core.Bool.{false, true≢false}
@@ -15,30 +14,16 @@ use lib.ListN.{length, getD, replicate}
 use borrow.Rule.Slice.PartMut.{putMid, midOf}
 use Rattle.lists.specs.Output.{put}
 use Rattle.lists.specs.Table.{tabulate}
-use Rattle.lists.proofs.Output.{put-equal, fill-next}
-use Rattle.lists.proofs.Table.{length-tabulate, getD-tabulate}
+use Rattle.lists.proofs.Output.{put-equal, fill-next, put-none}
+use Rattle.lists.proofs.Table.{length-tabulate, getD-tabulate, tabulated, repeated}
 use Rattle.vanilla_caller.specs.Strand.{Arrays}
 use Rattle.duplex_molecule.specs.declared.CtInput.{CtInput}
 use Rattle.duplex_molecule.specs.declared.CtInput.the-variants.{Neither, IsA, IsB}
 use Rattle.duplex_position.specs.declared.Position.{Position}
 use Rattle.duplex_arrays.specs.Positions.{canCall, positionOf, estimateOf, combinedBases, combinedQuals, estimates, uncounted}
 
--- general: for crates/lists
-pub tabulated : {A : Type 0} (n : ℕ) (f : ℕ → A) (d : A) {i : ℕ} {v : A} → i < n → v ≡ f i → v ≡ getD (tabulate n f) i d
-tabulated n f d {i} h e = e ∙ sym (getD-tabulate n f i d h)
-
--- general: for crates/lists
-pub repeated : {A : Type 0} (n : ℕ) (v : A) → replicate n v ≡ tabulate n (λ i. v)
-unfolding tabulate
-repeated zero v = refl
-repeated {A = A} (suc n) v = ap (λ (l : List A). v ∷ l) (repeated n v)
-
-nothing : (out : List ℕ) → out ≡ put [] out
-unfolding put
-nothing out = refl
-
 pub zeroed : (n : ℕ) (out : List ℕ) → n ≤ length out → {Y : List ℕ} → Y ≡ replicate (length (midOf 0 (n - 0) out)) 0 → putMid 0 (n - 0) out Y ≡ put (tabulate n uncounted) out
-zeroed n out room y = fill-next [] out (n - 0) (nothing out) refl (omega arith) 0 y ∙ put-equal out (rw (sub-zero n) (repeated n 0))
+zeroed n out room y = fill-next [] out (n - 0) (put-none out) refl (omega arith) 0 y ∙ put-equal out (rw (sub-zero n) (repeated n 0))
 
 pub without-calls : (ct : CtInput) → canCall ct ≡ false → ct ≡ Neither
 without-calls Neither e = refl

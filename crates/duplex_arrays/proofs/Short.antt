@@ -10,7 +10,7 @@ use Prim.Native.Nat.{ℕ, _≤_}
 use borrow.Author.Tests.{le-ltb}
 use Rattle.lists.specs.Output.{put}
 use Rattle.refusals.specs.Refusal.{tooShort}
-use Rattle.refusals.proofs.Condition.{Every, nor-where, not-too-short}
+use Rattle.refusals.proofs.Condition.{Every, nor-where, not-too-short, all-reach}
 use Rattle.duplex_arrays.specs.Positions.{arraysShort, unlessShort}
 
 pub reached :
@@ -21,12 +21,6 @@ unfolding arraysShort
 reached n calls marks others e =
     let (marked, rest) = nor-where (calls && tooShort n marks) true (tooShort n others) e in
     (λ k. not-too-short n marks (nor-where false calls (tooShort n marks) marked .1 k), not-too-short n others (rest refl))
-
--- general: for crates/refusals
-all-reach : (n : ℕ) (xs : List ℕ) → Every (λ x. n ≤ x) xs → tooShort n xs ≡ false
-all-reach n [] e = refl
-all-reach n (x ∷ []) e = le-ltb x n (e .0)
-all-reach n (x ∷ (y ∷ ys)) e = rw (le-ltb x n (e .0)) (all-reach n (y ∷ ys) (e .1))
 
 pub long-enough :
     (n : ℕ) (calls : Bool) (marks others : List ℕ)

@@ -11,15 +11,15 @@ use lib.Dec.{lit<}
 use lib.ListN.{length, getD}
 use Rattle.lists.specs.Output.{put}
 use Rattle.lists.specs.Table.{tabulate}
-use Rattle.lists.proofs.Output.{length-put, put-equal}
-use Rattle.lists.proofs.Table.{length-tabulate, getD-tabulate}
+use Rattle.lists.proofs.Output.{length-put, put-equal, put-over}
+use Rattle.lists.proofs.Table.{length-tabulate, getD-tabulate, tabulate-equal}
+use Rattle.lists.proofs.Written.{table-front}
+use Rattle.numbers.proofs.Numbers.{smallest-le}
 use Rattle.duplex_molecule.specs.declared.CtInput.{CtInput}
 use Rattle.duplex_strands.specs.Combine.{uncounted}
 use Rattle.source_reads.specs.Reads.{readErrors, addError, addedErrors, expectedAt, countedLength, countedErrors}
 use Rattle.source_reads.specs.declared.SourceRead.{SourceRead}
 use Rattle.source_reads.proofs.Counted.{as-counted}
-use Rattle.source_reads.proofs.Smallest.{smallest-le}
-use Rattle.source_reads.proofs.Written.{getD-written, put-over, table-equal}
 
 module _ (reads : List SourceRead) (bytes : List ℕ) (ct : CtInput) (basesA qualsA basesB qualsB : List ℕ) where
   pub none-asked : (errors : List ℕ) → countedErrors reads bytes ct 0 basesA qualsA basesB qualsB errors ≡ errors
@@ -50,9 +50,9 @@ module _ (reads : List SourceRead) (bytes : List ℕ) (ct : CtInput) (basesA qua
       let room : n ≤ length zs = omega (arith, f .own) in
       let reach : Reach n zs = record { a = f .a; qa = f .qa; b = f .b; qb = f .qb; own = room } in
       ap (λ (m : ℕ). addedErrors m bytes expected reads zs) (as-asked n zs reach)
-      ∙ put-equal zs (table-equal n (λ i. foldl (addError bytes (expected i) i) (getD zs i 0) reads) (λ i. readErrors bytes (expected i) i reads) (λ i l. ap (λ (z : ℕ). foldl (addError bytes (expected i) i) z reads) (zero i l) ∙ as-counted bytes (expected i) i reads few))
+      ∙ put-equal zs (tabulate-equal n (λ i. foldl (addError bytes (expected i) i) (getD zs i 0) reads) (λ i. readErrors bytes (expected i) i reads) (λ i l. ap (λ (z : ℕ). foldl (addError bytes (expected i) i) z reads) (zero i l) ∙ as-counted bytes (expected i) i reads few))
       ∙ ap (λ (l : List ℕ). put (tabulate n (λ i. readErrors bytes (expected i) i reads)) l) e
-      ∙ put-over (tabulate n (λ i. readErrors bytes (expected i) i reads)) (tabulate n uncounted) before (length-tabulate n _ ∙ sym (length-tabulate n uncounted))
+      ∙ put-over (tabulate n (λ i. readErrors bytes (expected i) i reads)) (tabulate n uncounted) before (omega (arith, length-tabulate n (λ i. readErrors bytes (expected i) i reads), length-tabulate n uncounted))
     where
       zero : (i : ℕ) → i < n → getD zs i 0 ≡ 0
-      zero i l = ap (λ (z : List ℕ). getD z i 0) e ∙ getD-written (tabulate n uncounted) before i 0 (omega (arith, length-tabulate n uncounted)) ∙ getD-tabulate n uncounted i 0 l
+      zero i l = ap (λ (z : List ℕ). getD z i 0) e ∙ table-front 0 n uncounted before i l

@@ -15,6 +15,7 @@ use lib.ListN.{length}
 use Rattle.lists.specs.Output.{unless, answer, put, after}
 use Rattle.lists.specs.Table.{tabulate}
 use Rattle.lists.proofs.Output.{put-equal}
+use Rattle.lists.proofs.Table.{tabulate-equal}
 use Rattle.refusals.specs.Refusal.{Fault, _if_, ragged, tooShort, refusal}
 use Rattle.refusals.proofs.Condition.{nor-where, not-ragged, not-too-short}
 use Rattle.refusals.proofs.Refusal.{and-then, passed}
@@ -32,7 +33,6 @@ use Rattle.duplex_record.specs.Record.{recordArrays, outputsShort, duplexFaults
 use Rattle.source_reads.specs.Reads.{anyLeaves, readErrors, expectedAt, countedErrors}
 use Rattle.source_reads.specs.declared.SourceRead.{SourceRead}
 use Rattle.source_reads.proofs.Counted.{few-errors}
-use Rattle.source_reads.proofs.Written.{table-equal}
 use Rattle.duplex_consensus.specs.Consensus.{listErrors, countedPositions, ConsensusAs}
 use Rattle.duplex_consensus.proofs.Counting.{none-asked, Reach, from-zeros}
 
@@ -118,7 +118,7 @@ module _ (a b : Strand) (reads : List SourceRead) (bytes : List ℕ) (before : R
         e
         ∙ ap (λ (m : ℕ). countedErrors reads bytes ct m (a .arrays .bases) (a .arrays .quals) (b .arrays .bases) (b .arrays .quals) made) q
         ∙ from-zeros reads bytes ct (a .arrays .bases) (a .arrays .quals) (b .arrays .bases) (b .arrays .quals) n (before .errors) (reach z k) (omega (arith, few z k)) f
-        ∙ put-equal (before .errors) (table-equal n _ counted (λ i l. held z k i))
+        ∙ put-equal (before .errors) (tabulate-equal n _ counted (λ i l. held z k i))
 
     -- The errors, by the number of the refusal and the record's kind.
     errors : (listed : Bool) (number : ℕ) (kind : DuplexConsensus) {r : DuplexConsensus}

@@ -1,7 +1,6 @@
 -- What the loop over positions writes, and how much of it.
 --     evidence-by     a strand's evidence, from what was asked of it
 --     at-most         there are no more places of evidence than positions
---     put-places      so many places of evidence are written, or none
 --     put-kept        for a caller: where evidence is written no array is too short
 -- Assumes nothing.
 use mathlib.Core.Path.{_≡_, refl, ap, _∙_}
@@ -30,16 +29,6 @@ evidence-by annotation ct x y u w p q = cc
 pub at-most : (b : Bool) (n : ℕ) {places : ℕ} → places ≡ cond b n 0 → places ≤ n
 at-most true n e = omega arith
 at-most false n e = omega arith
-
--- general: for crates/lists
-places-only : {A : Type 0} (b : Bool) (n : ℕ) (f : ℕ → A) {places : ℕ} → places ≡ cond b n 0 → tabulate places f ≡ onlyIf b (tabulate n f)
-unfolding onlyIf tabulate
-places-only true n f e = rw e
-places-only false n f e = rw e
-
--- general: for crates/lists
-pub put-places : {A : Type 0} (b : Bool) (n : ℕ) (f : ℕ → A) (out : List A) {places : ℕ} {Y : List A} → places ≡ cond b n 0 → Y ≡ put (tabulate places f) out → Y ≡ put (onlyIf b (tabulate n f)) out
-put-places b n f out e y = y ∙ put-equal out (places-only b n f e)
 
 pub put-kept :
     {A : Type 0} (b : Bool) (xs out : List A) {short : Bool} {now : List A}

@@ -10,7 +10,7 @@ use native.Mathlib.Omega.{arith}
 use Rattle.lists.specs.Output.{unless, answer}
 use Rattle.lists.proofs.Output.{answer-refused, answer-passed}
 use Rattle.refusals.specs.Refusal.{refusal}
-use Rattle.refusals.proofs.Condition.{both-hold}
+use Rattle.refusals.proofs.Condition.{both-hold, neither}
 use Rattle.refusals.proofs.Refusal.{passed}
 use Rattle.vanilla_caller.specs.Strand.{lengths, strandTooLong, strandRagged}
 use Rattle.duplex_kind.specs.Kind.{Strand, annotated, positions, shorterPresent, recordLength, covered, kindBy, kindOf, long, uneven, givenFaults, strandFaults, recordKind}
@@ -33,10 +33,6 @@ says n a b true true = (refl, refl, refl)
 says n a b true false = (refl, refl)
 says n a b false true = (refl, refl)
 says n a b false false = tt
-
-neither : (a b : Bool) → (a || b) ≡ false → (a ≡ false) × (b ≡ false)
-neither true b e = absurd (true≢false e)
-neither false b e = (refl, e)
 
 -- A condition on a strand that is present.
 where-present : (present met : Bool) → (present && met) ≡ false → present ≡ true → met ≡ false

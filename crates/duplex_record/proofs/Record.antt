@@ -11,7 +11,7 @@ use Prim.Native.Nat.{ℕ, zero, suc, min}
 use borrow.Author.Tests.{eq-eqb, ne-eqb}
 use lib.Dec.{eqb}
 use Rattle.lists.specs.Output.{unless, answer}
-use Rattle.lists.proofs.Output.{answer-refused, answer-passed, answer-map}
+use Rattle.lists.proofs.Output.{answer-refused, answer-passed, answer-map, after-none}
 use Rattle.refusals.specs.Refusal.{Fault, _if_, refusal}
 use Rattle.refusals.proofs.Refusal.{and-then}
 use Rattle.duplex_molecule.specs.Molecule.{ctInput}
@@ -29,7 +29,6 @@ use Rattle.duplex_kind.specs.declared.DuplexConsensus.the-variants.{Refused, No
 use Rattle.duplex_kind.proofs.Kind.{Passes, is-refused, is-none, is-ab, is-ba, is-both}
 use Rattle.duplex_record.specs.Parts.{abOf, baOf, bothOf}
 use Rattle.duplex_record.specs.Record.{nothing, recordArrays, outputsShort, duplexFaults, duplexRefused, DuplexAs}
-use Rattle.duplex_record.proofs.Untouched.{after-none}
 
 -- The outputs to which a strand alone goes.
 abbrev pub firstStrand : RecordArrays → RecordArrays

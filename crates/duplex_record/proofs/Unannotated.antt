@@ -4,6 +4,7 @@ use mathlib.Core.Bool.{Bool, true, false, _||_, true≢false}
 use mathlib.Core.List.{[]}
 use Prim.Native.Nat.{ℕ}
 use Rattle.lists.specs.Part.{onlyIf}
+use Rattle.lists.proofs.Output.{after-none}
 use Rattle.methylation.specs.Methylation.{isAnnotated}
 use Rattle.methylation.specs.declared.Annotation.{Annotation}
 use Rattle.methylation.specs.declared.Annotation.the-variants.{Absent, Of}
@@ -14,7 +15,6 @@ use Rattle.duplex_call.specs.Annotated.{combined}
 use Rattle.duplex_outputs.specs.Outputs.{RecordArrays, recordOf, recordTooShort, LeavesRecord}
 use Rattle.duplex_strands.specs.Combine.{combinedBases, combinedQuals, combinedErrors, estimates, keptMarks, keptUnconverted, keptConverted, uncounted, commonLength, bothArrays, combineFaults, combineRefused, CombinedAs}
 use Rattle.duplex_strands.specs.declared.Combined.{Combined}
-use Rattle.duplex_record.proofs.Untouched.{after-none}
 
 -- A strand without its evidence, and the outputs that then are written.
 abbrev pub bare : Arrays → Arrays

@@ -1,5 +1,4 @@
 -- Evidence is written where there is an annotation, and nowhere else: so many places of it are all or none.
---     table-or-none, put-none                                   of any table and any output
 --     marks-or-none, unconverted-or-none, converted-or-none     of the three arrays
 -- Assumes nothing.
 use mathlib.Core.Path.{_≡_, refl}
@@ -9,20 +8,8 @@ use Prim.Native.Nat.{ℕ}
 use Rattle.lists.specs.Output.{put}
 use Rattle.lists.specs.Part.{onlyIf}
 use Rattle.lists.specs.Table.{tabulate}
+use Rattle.lists.proofs.Table.{table-or-none}
 use Rattle.duplex_single.specs.Single.{marksGated, unconvertedGated, convertedGated}
-
--- So many places of a table are all n of it or none.
--- general: for crates/lists
-pub table-or-none : {A : Type 0} (b : Bool) (n : ℕ) (f : ℕ → A) {places : ℕ} → places ≡ cond b n 0 → tabulate places f ≡ onlyIf b (tabulate n f)
-unfolding onlyIf tabulate
-table-or-none true n f e = rw e
-table-or-none false n f e = rw e
-
--- Nothing is written.
--- general: for crates/lists
-pub put-none : {A : Type 0} (out : List A) → out ≡ put [] out
-unfolding put
-put-none out = refl
 
 module _ (b : Bool) (n : ℕ) (marks unconverted converted : List ℕ) {places : ℕ} (e : places ≡ cond b n 0) where
   pub marks-or-none : marksGated places marks unconverted converted ≡ onlyIf b (marksGated n marks unconverted converted)

@@ -16,6 +16,7 @@ use lib.ListN.{length}
 use borrow.Author.Tests.{ltb-false, eqb-true, eqb-false}
 use Rattle.lists.specs.Output.{unless, answer}
 use Rattle.refusals.specs.Refusal.{Fault, _if_, order, sorted, refusal, refuseIf}
+use Rattle.refusals.proofs.Condition.{neither}
 use Rattle.refusals.proofs.Refusal.{listed, and-then}
 use Rattle.methylation.specs.declared.MethylationMode.{MethylationMode}
 use Rattle.methylation_evidence.proofs.Counts.{summed-length}
@@ -128,10 +129,6 @@ module _ (mode : MethylationMode) (bases : List ℕ) (a b : Strand) (texts : Tex
       go false g =
           let same : n ≡ given = rw g at e in
           absurd (eqb-false given 0 g (sym same ∙ z))
-
-neither : (a b : Bool) → (a || b) ≡ false → (a ≡ false) × (b ≡ false)
-neither true b e = absurd (true≢false e)
-neither false b e = (refl, e)
 
 -- Each output of counts has room for what goes there.
 pub record CountRoom (needed out : CountLengths) : Type 0 where

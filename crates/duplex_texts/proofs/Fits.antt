@@ -1,5 +1,4 @@
 -- Calls of other crates that no row refuses here, so that what they write is known.
---     written         what an output holds after a call that is not refused
 --     bases-fit, restore-fits, tags-fit     of restoring a sequence, and of a strand's tags
 -- Assumes nothing.
 use mathlib.Core.Path.{_≡_, refl, sym, _∙_}
@@ -17,10 +16,6 @@ use Rattle.methylation.specs.declared.Annotation.the-variants.{Absent, Of}
 use Rattle.methylation.specs.declared.MethylationMode.{MethylationMode}
 use Rattle.methylation_restore.specs.Restore.{restoreFaults, restoreRefused, strandFaults, strandRefused}
 use Rattle.mm_ml.specs.Tags.{Annotated, Evident, mmText, mlArray, tagsRefused}
-
--- general: for crates/lists
-pub written : {A : Type 0} (xs out : List A) {number : ℕ} {now : List A} → now ≡ after number xs out → number ≡ 0 → now ≡ put xs out
-written xs out e z = e ∙ sym (after-passed xs out refl z)
 
 pub bases-fit :
     (annotation : Annotation) (bases marks out : List ℕ)

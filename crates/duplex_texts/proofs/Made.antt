@@ -11,21 +11,15 @@ use Prim.Native.Nat.{ℕ, _+_, _≤_}
 use native.Mathlib.Omega.{arith}
 use lib.ListN.{length, take, drop, length-append}
 use Rattle.lists.specs.Output.{put}
-use Rattle.lists.proofs.Output.{put-equal}
+use Rattle.lists.proofs.Output.{put-equal, put-holds, front-of}
 use Rattle.methylation.specs.declared.Annotation.{Annotation}
 use Rattle.methylation.specs.declared.MethylationMode.{MethylationMode}
 use Rattle.duplex_texts.specs.Texts.{Strand, TextArrays, duplexSeq, strandMm, strandMl, secondFirst, grouped, duplexTexts}
 use Rattle.duplex_texts.specs.Outputs.{textLengths}
 use Rattle.duplex_texts.specs.Parts.{Buffers, MadeAs, Buffered, TextsPut, neededFor}
 use Rattle.duplex_texts.specs.declared.BothLengths.{BothLengths}
-use Rattle.duplex_texts.proofs.Texts.{seq-length, front-of, mm-most, ml-most, grouped-length}
+use Rattle.duplex_texts.proofs.Texts.{seq-length, mm-most, ml-most, grouped-length}
 use Rattle.duplex_texts.proofs.Leaves.{PutsTexts}
-
--- general: for crates/lists
--- A written output holds what was written.
-holds : {A : Type 0} (xs out : List A) {L : List A} → L ≡ put xs out → length xs ≤ length L
-unfolding put
-holds xs out {L} e = omega (arith, ap length e ∙ length-append xs (drop (length xs) out))
 
 module _ {mode : MethylationMode} {bases : List ℕ} {a b : Strand} {before now : Buffers} {r : BothLengths} (m : MadeAs mode bases a b before now r) where
   size : length (duplexSeq bases a b) ≡ length bases
@@ -35,11 +29,11 @@ module _ {mode : MethylationMode} {bases : List ℕ} {a b : Strand} {before now 
   buffered =
       let seq = duplexSeq bases a b in
       record {
-        seq = omega (arith, size, holds seq (before .seq) (m .seq));
-        aMm = omega (arith, m .a-texts .mm-length, holds (strandMm mode seq a) (before .aMm) (m .a-texts .mm-text));
-        aMl = omega (arith, m .a-texts .ml-length, holds (strandMl mode seq a) (before .aMl) (m .a-texts .ml-array));
-        bMm = omega (arith, m .b-texts .mm-length, holds (strandMm mode seq b) (before .bMm) (m .b-texts .mm-text));
-        bMl = omega (arith, m .b-texts .ml-length, holds (strandMl mode seq b) (before .bMl) (m .b-texts .ml-array));
+        seq = omega (arith, size, put-holds seq (before .seq) (m .seq));
+        aMm = omega (arith, m .a-texts .mm-length, put-holds (strandMm mode seq a) (before .aMm) (m .a-texts .mm-text));
+        aMl = omega (arith, m .a-texts .ml-length, put-holds (strandMl mode seq a) (before .aMl) (m .a-texts .ml-array));
+        bMm = omega (arith, m .b-texts .mm-length, put-holds (strandMm mode seq b) (before .bMm) (m .b-texts .mm-text));
+        bMl = omega (arith, m .b-texts .ml-length, put-holds (strandMl mode seq b) (before .bMl) (m .b-texts .ml-array));
       }
 
   pub few-bytes : length bases ≤ 1024 → (r .aMm + r .bMm ≤ 10250) × (r .aMl + r .bMl ≤ 2048)

@@ -12,7 +12,7 @@ use lib.ListN.{length}
 use borrow.Author.Tests.{ltb-false, eq-eqb, ne-eqb}
 use Rattle.refusals.specs.Refusal.{Fault, order, sorted, refusal, tooLong, ragged}
 use Rattle.refusals.proofs.Refusal.{listed, and-then, passed}
-use Rattle.refusals.proofs.Condition.{Every, not-ragged}
+use Rattle.refusals.proofs.Condition.{Every, not-ragged, neither}
 use Rattle.methylation.specs.Methylation.{isAnnotated}
 use Rattle.methylation.specs.declared.Annotation.{Annotation}
 use Rattle.methylation.specs.declared.MethylationMode.{MethylationMode}
@@ -22,10 +22,6 @@ use Rattle.duplex_texts.specs.Texts.{Strand, TextArrays, duplexTexts}
 use Rattle.duplex_texts.specs.Outputs.{textLengths, evidenceLengths, uneven, givenFaults, givenOf, textsTooShort, roomFaults, textsFaults, textsRefused}
 use Rattle.duplex_texts.specs.Parts.{AsLong}
 use Rattle.duplex_texts.specs.declared.TextLengths.{TextLengths}
-
-neither : (a b : Bool) → (a || b) ≡ false → (a ≡ false) × (b ≡ false)
-neither true b e = absurd (true≢false e)
-neither false b e = (refl, e)
 
 only-where : (a b : Bool) → (a && b) ≡ false → a ≡ true → b ≡ false
 only-where true b e h = e

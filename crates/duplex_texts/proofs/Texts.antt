@@ -16,7 +16,7 @@ use borrow.Rule.Slice.PartMut.{putMid, midOf}
 use lib.ListN.{length, take, drop, length-append}
 use lib.Seq.{take-append-seam, drop-append-seam}
 use Rattle.lists.specs.Output.{unless, answer, put, after}
-use Rattle.lists.proofs.Output.{put-fitting, put-whole, put-equal, length-put, copy-next}
+use Rattle.lists.proofs.Output.{put-fitting, put-whole, put-equal, length-put, copy-next, written, front-of, put-none}
 use Rattle.methylation.specs.Methylation.{isAnnotated, patternBases}
 use Rattle.methylation.specs.declared.Annotation.{Annotation}
 use Rattle.methylation.specs.declared.Annotation.the-variants.{Absent, Of}
@@ -31,7 +31,7 @@ use Rattle.mm_ml.proofs.Group as group
 use Rattle.duplex_texts.specs.Texts.{Strand, strand, restoredSeq, duplexSeq, strandMm, strandMl, grouped}
 use Rattle.duplex_texts.specs.Parts.{AsLong, lengthsOf, TextsAs}
 use Rattle.duplex_texts.specs.declared.StrandLengths.{StrandLengths}
-use Rattle.duplex_texts.proofs.Fits.{written, restore-fits, tags-fit}
+use Rattle.duplex_texts.proofs.Fits.{restore-fits, tags-fit}
 
 strand-length : (annotation : Annotation) (marks bases : List ℕ) → length (strandBases annotation marks bases) ≡ length bases
 unfolding strandBases
@@ -45,17 +45,6 @@ seq-length bases a aMarks b bMarks = strand-length b bMarks (strandBases a aMark
 pub first-length : (annotation : Annotation) (marks bases : List ℕ) → length (strandBases annotation marks bases) ≡ length bases
 first-length = strand-length
 
--- general: for crates/lists
--- The front of a buffer, as the part 0..n, is what was written there.
-pub front : {A : Type 0} (xs out : List A) {L : List A} {n : ℕ} → L ≡ put xs out → n ≡ length xs → take (n - 0) L ≡ xs
-unfolding put
-front xs out {L} {n} e h = rw (sub-zero n, e, h) (take-append-seam xs (drop (length xs) out))
-
--- general: for crates/lists
-pub front-of : {A : Type 0} (xs out : List A) {L : List A} {n : ℕ} → L ≡ put xs out → n ≡ length xs → take n L ≡ xs
-unfolding put
-front-of xs out {L} {n} e h = rw (e, h) (take-append-seam xs (drop (length xs) out))
-
 -- L is a buffer with xs at its front, and Y that part after a call.
 module _ (pattern : ConversionPattern) (marks xs out : List ℕ) {L Y : List ℕ} {n : ℕ} (e : L ≡ put xs out) (h : n ≡ length xs) where
   pub part-restored :
@@ -65,16 +54,11 @@ module _ (pattern : ConversionPattern) (marks xs out : List ℕ) {L Y : List ℕ
       → putMid 0 (n - 0) L Y ≡ put (restored pattern marks xs) out
   unfolding put
   part-restored few same y =
-      let here : midOf 0 (n - 0) L ≡ xs = front xs out e h in
+      let here : midOf 0 (n - 0) L ≡ xs = front-of xs out e (sub-zero n ∙ h) in
       let there : Y ≡ after (restoreRefused xs marks) (restored pattern marks xs) xs = rw here at y in
       let long = restored-length (patternBases pattern) marks xs (length xs) in
       let whole : Y ≡ restored pattern marks xs = written (restored pattern marks xs) xs there (restore-fits xs marks few same) ∙ put-whole (restored pattern marks xs) xs long in
       rw (whole, sub-zero n, e, h, drop-append-seam, long)
-
--- general: for crates/lists
-pub put-none : {A : Type 0} (out : List A) → out ≡ put [] out
-unfolding put
-put-none out = refl
 
 module _ (mode : MethylationMode) (seq marks unconverted converted mm ml : List ℕ) where
   pub no-texts : {annotation : Annotation} → annotation ≡ Absent → TextsAs mode seq (strand annotation marks unconverted converted) mm ml mm ml (record { mm = 0; ml = 0 })

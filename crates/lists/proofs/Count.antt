@@ -1,11 +1,13 @@
 -- Laws of counting, for any element type.
 --     counted, passed-over     the number after an element that meets the test, and after one that does not
+--     count-cons, count-snoc   one element more, at the front and at the end
+--     counts-few               no more are counted than there are
 --     Counting                 the invariant of a loop that counts: begin, next, done
 -- Assumes nothing.
 use mathlib.Core.Path.{_≡_, refl, sym, _∙_}
 use mathlib.Core.Bool.{Bool, true, false, cond}
-use mathlib.Core.List.{List}
-use Prim.Native.Nat.{ℕ, _+_, _≤_, _<_}
+use mathlib.Core.List.{List, [], _∷_, _++_, foldl, foldl-append}
+use Prim.Native.Nat.{ℕ, suc, _+_, _≤_, _<_}
 use native.Mathlib.Omega.{arith}
 use lib.ListN.{length, take, getD}
 use Rattle.lists.specs.Count.{countIf, countOf}
@@ -27,6 +29,36 @@ module _ {A : Type 0} (p : A → Bool) where
       go : (b : Bool) → cond b (n + 1) n ≤ n + 1
       go true = omega arith
       go false = omega arith
+
+  one-of : (n : ℕ) (x : A) → countIf p n x ≡ n + countIf p 0 x
+  unfolding countIf
+  one-of n x = go (p x)
+    where
+      go : (b : Bool) → cond b (n + 1) n ≡ n + cond b (0 + 1) 0
+      go true = omega arith
+      go false = omega arith
+
+  count-from : (n : ℕ) (xs : List A) → foldl (countIf p) n xs ≡ n + countOf p xs
+  unfolding countOf
+  count-from n [] = omega arith
+  count-from n (x ∷ xs) = omega (arith, count-from (countIf p n x) xs, count-from (countIf p 0 x) xs, one-of n x)
+
+  pub count-cons : (x : A) (xs : List A) → countOf p (x ∷ xs) ≡ cond (p x) (suc (countOf p xs)) (countOf p xs)
+  unfolding countOf countIf
+  count-cons x xs = count-from (countIf p 0 x) xs ∙ go (p x)
+    where
+      go : (b : Bool) → cond b (0 + 1) 0 + countOf p xs ≡ cond b (suc (countOf p xs)) (countOf p xs)
+      go true = omega arith
+      go false = omega arith
+
+  pub count-snoc : (xs : List A) (x : A) → countOf p (xs ++ x ∷ []) ≡ countIf p (countOf p xs) x
+  unfolding countOf
+  count-snoc xs x = foldl-append (countIf p) 0 xs (x ∷ [])
+
+  pub counts-few : (xs : List A) → countOf p xs ≤ length xs
+  unfolding countOf
+  counts-few [] = omega arith
+  counts-few (x ∷ xs) = omega (arith, count-from (countIf p 0 x) xs, one-more 0 x, counts-few xs)
 
   -- n of the first i elements meet the test: at most i.
   pub record Counting (xs : List A) (i n : ℕ) : Type 0 where

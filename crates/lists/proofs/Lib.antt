@@ -1,7 +1,9 @@
 pub mod Fold
 pub mod Count
+pub mod Every
 pub mod Indices
 pub mod Output
 pub mod Part
 pub mod Place
 pub mod Table
+pub mod Written

@@ -2,23 +2,29 @@
 --     answer-refused, answer-passed      what a call answers, by the number that its code has
 --     answer-then, answer-map            of a call that is refused in two steps; that hands on another's answer
 --     after-refused, after-passed        what an output then holds
---     length-put, put-snoc, put-next     the length of a written output, and what is written right after
+--     written, after-none                of a call that was not refused; to which nothing goes
+--     put-none, put-take, put-over       nothing written, what stands there written again, and something else over it
+--     length-put, put-holds, front-of    the length of a written output, and what stands at its front
+--     put-snoc, put-next                 what is written right after
+--     put-fitting, fitting-snoc          of what goes there, as much as there is room for
+--     copied-part, copied-map            a copy of so many places
 --     copy-next, fill-next               by a call that copies to a part of it, or fills that
 --     Filling                            the invariant: the first i of the n places are written, the rest are as they were
 --     begin, fits, next, done, same      the five facts that such a loop asks for
 --     Copying, Repeating                 the same for a loop that copies, or repeats one value: begin-, next-, done-
 -- Assumes nothing.
 use mathlib.Core.Path.{_≡_, refl, sym, ap, _∙_}
-use mathlib.Core.Bool.{cond}
-use mathlib.Core.List.{List, [], _∷_, _++_, append-nil, append-assoc}
-use Prim.Native.Nat.{ℕ, zero, suc, _+_, _≤_, _<_, min}
+use mathlib.Core.Bool.{Bool, true, false, cond}
+use mathlib.Core.List.{List, [], _∷_, _++_, map, append-nil, append-assoc}
+use Prim.Native.Nat.{ℕ, zero, suc, _+_, _-_, _≤_, _<_, min}
+use native.Mathlib.Nat.{sub-zero}
 use native.Mathlib.Omega.{arith}
-use lib.Dec.{eqb}
-use borrow.Author.Tests.{ne-eqb}
+use lib.Dec.{eqb, ltb}
+use borrow.Author.Tests.{ne-eqb, ltb-true, ltb-false}
 use native.Mathlib.Numerals.{add-one}
-use lib.ListN.{length, take, drop, set, getD, replicate, length-append, length-take, length-drop, length-replicate, getD-replicate, take-append-drop}
+use lib.ListN.{length, take, drop, set, getD, replicate, length-append, length-take, length-drop, length-map, length-replicate, getD-replicate, take-append-drop}
 use borrow.Rule.Slice.PartMut.{putMid, midOf}
-use lib.Seq.{set-append-seam, take-suc, take-append-seam, drop-append-seam, drop-append-le, drop-drop, drop-cons, drop-length, length-take-le, take-all, append-snoc, getD-take}
+use lib.Seq.{set-append-seam, set-out, take-suc, take-append-seam, take-append-le, drop-append-seam, drop-append-le, drop-append-add, drop-drop, drop-cons, drop-length, length-take-le, take-all, append-snoc, getD-take}
 use Rattle.lists.specs.Output.{unless, answer, put, after}
 
 module _ {A : Type 0} where
@@ -61,12 +67,49 @@ module _ {A : Type 0} where
   unfolding after
   after-passed xs out e z = unless-passed out (put xs out) (sym e ∙ z)
 
+  pub written : (xs out : List A) {number : ℕ} {now : List A} → now ≡ after number xs out → number ≡ 0 → now ≡ put xs out
+  written xs out e z = e ∙ sym (after-passed xs out refl z)
+
+  -- Refused or not.
+  pub after-none : (number : ℕ) (out : List A) → out ≡ after number [] out
+  unfolding after put unless
+  after-none zero out = refl
+  after-none (suc n) out = refl
+
+  pub put-none : (out : List A) → out ≡ put [] out
+  unfolding put
+  put-none out = refl
+
+  pub put-take : (n : ℕ) (out : List A) → put (take n out) out ≡ out
+  unfolding put
+  put-take zero out = refl
+  put-take (suc n) [] = refl
+  put-take (suc n) (x ∷ out) = ap (λ (l : List A). x ∷ l) (put-take n out)
+
+  -- What was written before is not seen where at least as much is written over it.
+  pub put-over : (xs ys out : List A) → length ys ≤ length xs → put xs (put ys out) ≡ put xs out
+  unfolding put
+  put-over xs ys out h = ap (λ (l : List A). xs ++ l) (past (length xs - length ys) {n = length xs} (omega arith))
+    where
+      past : (m : ℕ) {n : ℕ} → n ≡ length ys + m → drop n (ys ++ drop (length ys) out) ≡ drop n out
+      past m e = rw e (drop-append-add ys (drop (length ys) out) m ∙ drop-drop m (length ys) out)
+
   pub put-equal : (out : List A) {xs ys : List A} → xs ≡ ys → put xs out ≡ put ys out
   put-equal out e = ap (λ (l : List A). put l out) e
 
   pub length-put : (xs out : List A) → length xs ≤ length out → length (put xs out) ≡ length out
   unfolding put
   length-put xs out h = simp (length-append, length-drop) (omega arith)
+
+  -- L is an output to which xs was written.
+  module _ (xs out : List A) {L : List A} (e : L ≡ put xs out) where
+    pub put-holds : length xs ≤ length L
+    unfolding put
+    put-holds = omega (arith, ap length e ∙ length-append xs (drop (length xs) out))
+
+    pub front-of : {n : ℕ} → n ≡ length xs → take n L ≡ xs
+    unfolding put
+    front-of h = rw (e, h) (take-append-seam xs (drop (length xs) out))
 
   -- One more element is written.
   pub put-snoc : (xs out : List A) (v : A) → length xs < length out → set (put xs out) (length xs) v ≡ put (xs ++ (v ∷ [])) out
@@ -151,6 +194,30 @@ module _ {A : Type 0} where
   -- What does not fit is not copied; all fits where there is room.
   pub put-fitting : (xs out : List A) → length xs ≤ length out → put (take (length out) xs) out ≡ put xs out
   put-fitting xs out h = put-equal out (take-all (length out) xs h)
+
+  -- One more element is stored behind what was written as far as there was room.
+  pub fitting-snoc : (xs out : List A) (v : A) → set (put (take (length out) xs) out) (length xs) v ≡ put (take (length out) (xs ++ v ∷ [])) out
+  fitting-snoc xs out v = go (ltb (length xs) (length out)) refl
+    where
+      go : (b : Bool) → ltb (length xs) (length out) ≡ b → set (put (take (length out) xs) out) (length xs) v ≡ put (take (length out) (xs ++ v ∷ [])) out
+      go true e =
+          let room = ltb-true (length xs) (length out) e in
+          rw (put-fitting xs out (omega arith), put-fitting (xs ++ v ∷ []) out (omega (arith, length-append xs (v ∷ [])))) (put-snoc xs out v room)
+      go false e =
+          let full = ltb-false (length xs) (length out) e in
+          rw (take-append-le (length out) xs (v ∷ []) full)
+          (set-out (put (take (length out) xs) out) (length xs) v (omega (arith, length-put (take (length out) xs) out (omega (arith, length-take (length out) xs)))))
+
+  -- A copy of the first n places of xs, as the part 0..n, to an output that has room for them.
+  pub copied-part : (xs out : List A) (n : ℕ) → n ≤ length out → put (take (length out) (take (n - 0) xs)) out ≡ put (take n xs) out
+  copied-part xs out n h = rw (sub-zero n) (put-fitting (take n xs) out (omega (arith, length-take n xs)))
+
+  -- The same where each element goes through f.
+  pub copied-map :
+      {B : Type 0} (f : B → A) (xs : List B) (out : List A) (n : ℕ)
+      → n ≤ length out
+      → put (take (length out) (map f (take (n - 0) xs))) out ≡ put (map f (take n xs)) out
+  copied-map f xs out n h = rw (sub-zero n) (put-fitting (map f (take n xs)) out (omega (arith, length-map (take n xs) f, length-take n xs)))
 
   -- Where xs is at the front, ys goes to a part of k places right after it.
   pub put-next : (xs ys out : List A) {a k : ℕ} → a ≡ length xs → length ys ≤ k → a + k ≤ length out → putMid a k (put xs out) (put ys (midOf a k (put xs out))) ≡ put (xs ++ ys) out

@@ -1,4 +1,5 @@
 pub mod Count
+pub mod Every
 pub mod Indices
 pub mod Output
 pub mod Part

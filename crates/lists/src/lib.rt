@@ -1,4 +1,4 @@
-// Total reads, copies, fills and parts of slices, a module for each width in use. The laws on lists and on lent outputs that
+// Total reads, copies, fills, fronts and parts of slices, a module for each width in use. The laws on lists and on lent outputs that
 // every crate cites are in specs/ and proofs/, over any element type. Uses nothing.
 mod u16s;
 mod u32s;
@@ -7,12 +7,15 @@ mod u8s;
 pub use u8s::at_u8;
 pub use u8s::copy_u8;
 pub use u8s::fill_u8;
+pub use u8s::front_u8;
 pub use u8s::part_u8;
 pub use u16s::at_u16;
 pub use u16s::copy_u16;
 pub use u16s::fill_u16;
+pub use u16s::front_u16;
 pub use u32s::at_u32;
 pub use u32s::copy_u32;
+pub use u32s::front_u32;
 ghost use mathlib.Core.Path.{_≡_};
 ghost use Prim.Native.Nat.{min};
 ghost use Rattle.lists.specs.Part.{leaves};

@@ -38,3 +38,11 @@ pub fn fill_u16(value: u16, out: &mut [u16])
         i += 1;
     }
 }
+
+// The first n elements, or all where there are fewer.
+pub fn front_u16(xs: &[u16], n: usize) -> &[u16]
+    ensures { λ r. ⌜ now r ≡ take n (now (xs .entry)) ⌝ }
+{
+    let end = smaller(n, xs.len());
+    &xs[0..end]
+}

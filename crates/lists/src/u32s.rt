@@ -26,3 +26,11 @@ pub fn copy_u32(xs: &[u32], out: &mut [u32])
         i += 1;
     }
 }
+
+// The first n elements, or all where there are fewer.
+pub fn front_u32(xs: &[u32], n: usize) -> &[u32]
+    ensures { λ r. ⌜ now r ≡ take n (now (xs .entry)) ⌝ }
+{
+    let end = smaller(n, xs.len());
+    &xs[0..end]
+}

@@ -41,6 +41,14 @@ pub fn fill_u8(value: u8, out: &mut [u8])
     }
 }
 
+// The first n elements, or all where there are fewer.
+pub fn front_u8(xs: &[u8], n: usize) -> &[u8]
+    ensures { λ r. ⌜ now r ≡ take n (now (xs .entry)) ⌝ }
+{
+    let end = smaller(n, xs.len());
+    &xs[0..end]
+}
+
 // The part of so many bytes from an offset on; empty where it would leave the buffer.
 pub fn part_u8(xs: &[u8], offset: usize, count: usize) -> &[u8]
     ensures { λ r. ⌜ now r ≡ part offset count (now (xs .entry)) ⌝ }

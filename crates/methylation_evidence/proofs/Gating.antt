@@ -8,11 +8,11 @@ use lib.ListN.{length, getD, set}
 use Rattle.lists.specs.Output.{unless, after}
 use Rattle.lists.proofs.Output.{Filling, begin, next, done}
 use Rattle.lists.proofs.Table.{length-tabulate, getD-tabulate}
+use Rattle.lists.proofs.Written.{unwritten}
 use Rattle.methylation.specs.Methylation.{evidenceIf}
 use Rattle.methylation.specs.declared.Evidence.{Evidence}
 use Rattle.methylation_evidence.specs.Arrays.{EvidenceArrays, evidenceArrays, informative, EvidenceLeaves}
 use Rattle.methylation_evidence.specs.Gate.{gatedAt, gated}
-use Rattle.methylation_evidence.proofs.InPlace.{unwritten}
 
 pub record Gating (n : ℕ) (e : EvidenceArrays) (i : ℕ) (now : EvidenceArrays) : Type 0 where
   pub marks : Filling n (gated e .marks) (e .marks) i (now .marks)

@@ -1,5 +1,4 @@
 pub mod Arrays
 pub mod Counts
 pub mod Gating
-pub mod InPlace
 pub mod Truncating

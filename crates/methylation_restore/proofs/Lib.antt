@@ -1,2 +1,1 @@
 pub mod Restored
-pub mod Written

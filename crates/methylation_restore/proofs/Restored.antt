@@ -12,8 +12,11 @@ use Prim.Native.Nat.{ℕ, _≤_, _<_}
 use borrow.Author.Tests.{ltb-false, eqb-true, not-false}
 use lib.Dec.{eqb}
 use lib.ListN.{length, getD}
+use native.Mathlib.Omega.{arith}
 use Rattle.lists.specs.Output.{put}
-use Rattle.lists.proofs.Table.{length-tabulate, getD-tabulate}
+use Rattle.lists.proofs.Output.{put-over}
+use Rattle.lists.proofs.Table.{length-tabulate, getD-tabulate, tabulate-equal}
+use Rattle.lists.proofs.Written.{getD-put}
 use Rattle.dna.specs.Dna.{sameLetter}
 use Rattle.refusals.specs.Refusal.{refusal}
 use Rattle.refusals.proofs.Refusal.{passed}
@@ -24,7 +27,6 @@ use Rattle.methylation.specs.declared.ConversionPattern.{ConversionPattern}
 use Rattle.methylation.specs.declared.PatternBases.{PatternBases}
 use Rattle.methylation_evidence.specs.Arrays.{informative}
 use Rattle.methylation_restore.specs.Restore.{restoredBase, restoredAt, restoredTo, restored, strandBases, strandFaults}
-use Rattle.methylation_restore.proofs.Written.{getD-put, put-over, tabulate-equal}
 
 module _ (letters : PatternBases) (mark base : ℕ) {same : Bool} (is : same ≡ sameLetter base (letters .converted)) where
   pub restored-here : (informative mark && same) ≡ true → letters .unconverted ≡ restoredBase letters mark base
@@ -55,7 +57,7 @@ module _ (letters : PatternBases) (marks bases : List ℕ) where
       → length marks ≡ length bases
       → put (restoredTo (length marks) letters marks (put bases out)) (put bases out) ≡ put (restoredTo (length bases) letters marks bases) out
   restored-copy out e =
-      rw (e, restored-front out) (put-over (restoredTo (length bases) letters marks bases) bases out (restored-length (length bases)))
+      rw (e, restored-front out) (put-over (restoredTo (length bases) letters marks bases) bases out (omega (arith, restored-length (length bases))))
 
 module _ (marks bases : List ℕ) where
   pub strand-absent : {annotation : Annotation} → annotation ≡ Absent → bases ≡ strandBases annotation marks bases

@@ -13,7 +13,7 @@ use native.Mathlib.Omega.{arith}
 use lib.ListN.{length, take, set, length-append, length-map}
 use Rattle.lists.specs.Output.{put}
 use Rattle.lists.specs.Part.{onlyIf}
-use Rattle.lists.proofs.Output.{length-put, put-snoc, put-fitting}
+use Rattle.lists.proofs.Output.{length-put, put-snoc, put-fitting, put-over, front-of}
 use Rattle.methylation.specs.Methylation.{isEnabled}
 use Rattle.methylation.specs.declared.ConversionPattern.{ConversionPattern}
 use Rattle.methylation.specs.declared.ConversionPattern.the-variants.{CToT, GToA}
@@ -24,7 +24,6 @@ use Rattle.mm_ml.specs.Tags.{Annotated, calledAt, skips, allCalls, allLi
 use Rattle.mm_ml.specs.declared.Mm.the-variants.{Tag}
 use Rattle.mm_ml.specs.declared.MmMl.the-variants.{Tags}
 use Rattle.mm_ml.proofs.Walk.{listed-within, calls-within}
-use Rattle.mm_ml.proofs.Strand.{put-over, take-put}
 
 pub prefix-length : (pattern : ConversionPattern) → length (prefixOf pattern) ≡ 4
 prefix-length CToT = refl
@@ -60,7 +59,7 @@ module _
       with-counts : counted ≡ put (withPrefix pattern counts) out
       with-counts =
           n
-          ∙ rw (with-prefix, take-put (prefixOf pattern) out (sym (prefix-length pattern))) (put-over (prefixOf pattern) (listed counts) out)
+          ∙ rw (with-prefix, front-of (prefixOf pattern) out refl (sym (prefix-length pattern))) (put-over (withPrefix pattern counts) (prefixOf pattern) out (omega (arith, length-append (prefixOf pattern) (listed counts))))
 
       pub semicolon-fits : at < length counted
       semicolon-fits = omega (arith, ap length with-counts ∙ length-put (withPrefix pattern counts) out (omega (arith, text-length, group-length pattern counts)), group-length pattern counts)

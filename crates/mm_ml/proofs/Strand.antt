@@ -2,7 +2,6 @@
 --     Listing      counts the listed skip counts and their length
 --     Writing      writes them behind what stands before place 4
 --     Scoring      writes the ML bytes
---     put-take, put-over, take-put      laws of a written output
 --     with-comma, after-comma           a comma and a count, written at a place
 -- Assumes nothing.
 use mathlib.Core.Path.{_≡_, refl, sym, ap, _∙_}
@@ -15,7 +14,7 @@ use lib.Seq.{take-append-seam, drop-append-add, drop-drop, length-take-le, appen
 use borrow.Rule.Slice.PartMut.{putMid, midOf}
 use Rattle.lists.specs.Output.{put}
 use Rattle.lists.specs.Part.{onlyIf}
-use Rattle.lists.proofs.Output.{put-snoc, length-put, put-equal, copy-next}
+use Rattle.lists.proofs.Output.{put-snoc, length-put, put-equal, copy-next, put-take, put-over, front-of}
 use Rattle.decimal.specs.Decimal.{decimal}
 use Rattle.decimal.proofs.Decimal.{few-digits}
 use Rattle.methylation.specs.declared.MethylationMode.{MethylationMode}
@@ -23,21 +22,6 @@ use Rattle.methylation_calls.specs.Calls.{isTracked}
 use Rattle.mm_ml.specs.Text.{placesBelow, listed}
 use Rattle.mm_ml.specs.Tags.{Annotated, calledAt, callsBelow, allCalls, allListed, mlByte, allBytes, Evident}
 use Rattle.mm_ml.proofs.Walk.{Passing, listedBelow, begin, next, called-next, skips-next, calls-last, listed-last, none-listed, listed-within, calls-within}
-
--- general: for crates/lists. What stands at the front is written again.
-pub put-take : {A : Type 0} (n : ℕ) (out : List A) → n ≤ length out → put (take n out) out ≡ out
-unfolding put
-put-take n out h = rw (length-take-le n out h) (take-append-drop n out)
-
--- general: for crates/lists. More is written over what was written before.
-pub put-over : {A : Type 0} (xs ys out : List A) → put (xs ++ ys) (put xs out) ≡ put (xs ++ ys) out
-unfolding put
-put-over xs ys out = rw (length-append, drop-append-add, drop-drop)
-
--- What stands before the place, and behind it.
-pub take-put : {A : Type 0} (xs out : List A) {n : ℕ} → n ≡ length xs → take n (put xs out) ≡ xs
-unfolding put
-take-put xs out e = rw (e, take-append-seam)
 
 -- A comma is set at a place, and a text copied behind it.
 module _ (out : List ℕ) (at : ℕ) (text : List ℕ) (room : at + length (44 ∷ text) ≤ length out) where
@@ -47,7 +31,7 @@ module _ (out : List ℕ) (at : ℕ) (text : List ℕ) (room : at + length (44 �
   pub with-comma : set out at 44 ≡ put (take at out ++ 44 ∷ []) out
   with-comma =
       let stored = put-snoc (take at out) out 44 (omega (arith, before-place)) in
-      rw (put-take at out (omega arith), before-place) at stored
+      rw (put-take at out, before-place) at stored
 
   pub after-comma : {Y : List ℕ} → Y ≡ put (take (length (midOf (at + 1) (length (set out at 44) - (at + 1)) (set out at 44))) text) (midOf (at + 1) (length (set out at 44) - (at + 1)) (set out at 44)) → putMid (at + 1) (length (set out at 44) - (at + 1)) (set out at 44) Y ≡ put (take at out ++ (44 ∷ text)) out
   after-comma e =
@@ -167,7 +151,7 @@ module _ (s : Annotated) where
         walked = begin (isTracked (s .pattern)) (s .bases) (calledAt s);
         room = room;
         place = omega (arith, ap length none);
-        so-far = rw (none, append-nil) (sym (put-take 4 before (omega arith)));
+        so-far = rw (none, append-nil) (sym (put-take 4 before));
       }
 
   pub same-writing : {before : List ℕ} {i skip at : ℕ} {now : List ℕ} → Writing before i skip at now → length now ≡ length before
@@ -208,12 +192,12 @@ module _ (s : Annotated) where
       let more = more-text (w .walked) e in
       let longer = ap length more ∙ length-append (texts i) (44 ∷ decimal skip) in
       let text = take 4 before ++ texts i in
-      let before-it : take at now ≡ text = rw (w .so-far) (take-put text before (sym (front w))) in
+      let before-it : take at now ≡ text = front-of text before (w .so-far) (sym (front w)) in
       record {
         walked = rw skip-is (walk-next true (w .walked) h e);
         room = w .room;
         place = omega (arith, at-is, longer, w .place);
-        so-far = now-is ∙ rw (before-it, w .so-far, more, ← append-assoc) (put-over text (44 ∷ decimal skip) before);
+        so-far = now-is ∙ rw (before-it, w .so-far, more, ← append-assoc) (put-over (text ++ (44 ∷ decimal skip)) text before (omega (arith, length-append text (44 ∷ decimal skip))));
       }
   turn-writing {before} {i} {skip} {at} {now} false w h e skip-is at-is now-is =
       let same = no-more-text (w .walked) e in

@@ -16,18 +16,11 @@ use lib.ListN.{length, take, getD, length-append}
 use lib.Seq.{slice, slice-empty, take-suc, drop-append-le, length-take-le}
 use Rattle.lists.specs.Count.{countIf, countOf}
 use Rattle.lists.specs.Part.{onlyIf}
+use Rattle.lists.proofs.Count.{count-snoc}
+use Rattle.lists.proofs.Part.{slice-next}
 use Rattle.decimal.specs.Decimal.{decimal}
 use Rattle.decimal.proofs.Decimal.{few-digits}
 use Rattle.mm_ml.specs.Text.{placesBelow, letters, skipsFrom, listed}
-
--- general: for crates/lists. A slice that ends one later.
-slice-next : {A : Type 0} (from to : ℕ) (xs : List A) (d : A) → from ≤ to → to < length xs → slice from (suc to) xs ≡ slice from to xs ++ getD xs to d ∷ []
-slice-next from to xs d h g = rw (take-suc xs to d g) (drop-append-le from (take to xs) (getD xs to d ∷ []) (omega (arith, length-take-le to xs (omega arith))))
-
--- general: for crates/lists. One element more is counted.
-count-snoc : {A : Type 0} (p : A → Bool) (xs : List A) (x : A) → countOf p (xs ++ x ∷ []) ≡ countIf p (countOf p xs) x
-unfolding countOf
-count-snoc p xs x = foldl-append (countIf p) 0 xs (x ∷ [])
 
 -- The position after the last of some, or `from`.
 abbrev pub past : ℕ → List ℕ → ℕ

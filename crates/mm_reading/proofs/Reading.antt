@@ -14,6 +14,7 @@ use lib.ListN.{length, drop, getD}
 use lib.Seq.{slice, slice-cons, drop-cons}
 use Rattle.lists.specs.Count.{countIf, countOf}
 use Rattle.lists.specs.Part.{onlyIf}
+use Rattle.lists.proofs.Count.{count-cons}
 use Rattle.refusals.proofs.Condition.{both-hold}
 use Rattle.decimal.specs.Decimal.{digit, decimal, valueOf}
 use Rattle.decimal.proofs.Decimal.{Each, only-digits, value-decimal}
@@ -60,29 +61,6 @@ pub skips-read : (pattern : ConversionPattern) (n : ℕ) (ns : List ℕ) → ski
 unfolding skipsOf groupText listed
 skips-read CToT n ns = ap (λ (l : List ℕ). numbers 0 l) (append-assoc (decimal n) (listed ns) (59 ∷ [])) ∙ numbers-read n ns
 skips-read GToA n ns = ap (λ (l : List ℕ). numbers 0 l) (append-assoc (decimal n) (listed ns) (59 ∷ [])) ∙ numbers-read n ns
-
--- general: for crates/lists. Counting from the front.
-module _ {A : Type 0} (p : A → Bool) where
-  one-of : (n : ℕ) (x : A) → countIf p n x ≡ n + countIf p 0 x
-  unfolding countIf
-  one-of n x = go (p x)
-    where
-      go : (b : Bool) → cond b (n + 1) n ≡ n + cond b (0 + 1) 0
-      go true = omega arith
-      go false = omega arith
-
-  count-from : (n : ℕ) (xs : List A) → foldl (countIf p) n xs ≡ n + countOf p xs
-  unfolding countOf
-  count-from n [] = omega arith
-  count-from n (x ∷ xs) = omega (arith, count-from (countIf p n x) xs, count-from (countIf p 0 x) xs, one-of n x)
-
-  count-cons : (x : A) (xs : List A) → countOf p (x ∷ xs) ≡ cond (p x) (suc (countOf p xs)) (countOf p xs)
-  unfolding countOf countIf
-  count-cons x xs = count-from (countIf p 0 x) xs ∙ go (p x)
-    where
-      go : (b : Bool) → cond b (0 + 1) 0 + countOf p xs ≡ cond b (suc (countOf p xs)) (countOf p xs)
-      go true = omega arith
-      go false = omega arith
 
 module _ (tracked : ℕ → Bool) where
   -- What a base does to a count: a tracked one of a count of 0 is called, one of a larger count is passed over, and so is any other base.

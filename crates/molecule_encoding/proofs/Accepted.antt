@@ -9,9 +9,10 @@ use Prim.Native.Nat.{ℕ, _+_, _-_, _≤_, _<_}
 use borrow.Author.Tests.{le-leb, lt-leb}
 use lib.Dec.{leb}
 use lib.ListN.{length}
+use Rattle.lists.specs.Every.{every}
 use Rattle.refusals.proofs.Condition.{both-hold}
 use Rattle.fields.specs.Encoding.{Field, wholeFields, cutField}
-use Rattle.molecule_fields.specs.Widths.{implies, every, wellFormed}
+use Rattle.molecule_fields.specs.Widths.{implies, wellFormed}
 use Rattle.molecule_encoding.specs.Format.{ascending, has, wholeStrand, annotatedStrand, announced, valid, accepted, spanOf, strandOf, readsAfter, absent, span, molecule, decoded, fieldsFit, strandFits, complete}
 use Rattle.molecule_encoding.specs.declared.Span.{Span}
 use Rattle.molecule_encoding.specs.declared.Decoded.the-variants.{Refused, Of}

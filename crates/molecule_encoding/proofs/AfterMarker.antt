@@ -11,13 +11,14 @@ use borrow.Author.Tests.{ltb-true, leb-true, eqb-true, le-ltb, eq-eqb}
 use lib.Dec.{eqb, ltb, leb}
 use lib.ListN.{length, drop, length-drop}
 use lib.Seq.{take-all}
+use Rattle.lists.specs.Every.{every}
 use Rattle.lists.specs.Part.{leaves, part}
 use Rattle.refusals.proofs.Condition.{both-hold}
 use Rattle.fields.specs.Encoding.{Field, wholeFields, cutField, nextField}
 use Rattle.fields.specs.declared.FieldAt.{FieldAt}
 use Rattle.fields.specs.declared.NextField.the-variants.{End, Cut}
 use Rattle.fields.proofs.Walk.{BeginsAt, along}
-use Rattle.molecule_fields.specs.Widths.{every, strandTag, knownTag, lengthFits, bitsFit, wellFormed, isRead, isRun}
+use Rattle.molecule_fields.specs.Widths.{strandTag, knownTag, lengthFits, bitsFit, wellFormed, isRead, isRun}
 use Rattle.molecule_encoding.specs.Format.{follows, ascendAfter, accepted, fieldsFit, span, spanFrom, readsAfter, molecule, decoded, valueAt}
 use Rattle.molecule_encoding.specs.declared.Molecule.{Molecule}
 use Rattle.molecule_encoding.specs.declared.Span.{Span}

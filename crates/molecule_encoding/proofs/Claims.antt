@@ -12,6 +12,7 @@ use native.Mathlib.Omega.{arith}
 use borrow.Author.Tests.{le-ltb, le-leb, leb-true, eqb-true, not-true}
 use lib.Dec.{eqb, leb}
 use lib.ListN.{length, drop}
+use Rattle.lists.specs.Every.{every}
 use Rattle.lists.specs.Part.{leaves, part}
 use Rattle.refusals.proofs.Condition.{both-hold}
 use Rattle.fields.specs.Encoding.{Field, field, IsBytes, Fields, fields, fieldsOf, wholeFields, cutField, nextField, fieldAt}
@@ -19,7 +20,7 @@ use Rattle.fields.specs.declared.FieldAt.{FieldAt}
 use Rattle.fields.specs.declared.NextField.the-variants.{End, Cut}
 use Rattle.fields.proofs.Fields.{read-back, written}
 use Rattle.fields.proofs.Walk.{BeginsAt, at-end, at-cut, along}
-use Rattle.molecule_fields.specs.Widths.{every, wellFormed}
+use Rattle.molecule_fields.specs.Widths.{wellFormed}
 use Rattle.molecule_encoding.specs.Format.{has, valid, accepted, absent, span, spanFrom, spanOf, molecule, decoded, EncodesMolecule, valueOf, valueAt}
 use Rattle.molecule_encoding.specs.declared.Molecule.{Molecule}
 use Rattle.molecule_encoding.specs.declared.Decoded.the-variants.{Refused, Of}

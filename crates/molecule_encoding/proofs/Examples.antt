@@ -3,9 +3,10 @@
 use mathlib.Core.Path.{_≡_, refl}
 use mathlib.Core.List.{List, [], _∷_}
 use Prim.Native.Nat.{ℕ}
+use Rattle.lists.specs.Every.{every}
 use Rattle.lists.specs.Table.{tabulate}
 use Rattle.fields.specs.Encoding.{front, fieldsWithin, fieldsOf}
-use Rattle.molecule_fields.specs.Widths.{every, knownTag, lengthFits, marks, bitsFit, wellFormed}
+use Rattle.molecule_fields.specs.Widths.{knownTag, lengthFits, marks, bitsFit, wellFormed}
 use Rattle.molecule_encoding.specs.Format.{follows, ascendAfter, has, wholeStrand, annotatedStrand, announced, valid, accepted, absent, span, spanFrom, strandOf, readsAfter, molecule, decoded}
 use Rattle.molecule_encoding.specs.declared.Decoded.{Decoded}
 use Rattle.molecule_encoding.specs.declared.Decoded.the-variants.{Refused, Of}

@@ -11,12 +11,13 @@ use native.Mathlib.Omega.{arith}
 use borrow.Author.Tests.{ltb-true, eqb-true, lt-ltb}
 use lib.Dec.{ltb, eqb}
 use lib.ListN.{drop}
+use Rattle.lists.specs.Every.{every}
 use Rattle.refusals.proofs.Condition.{both-hold}
 use Rattle.fields.specs.Encoding.{Field, Fields, wholeFields, cutField, nextField, fieldAt}
 use Rattle.fields.specs.declared.FieldAt.{FieldAt}
 use Rattle.fields.specs.declared.NextField.the-variants.{End, Cut}
 use Rattle.fields.proofs.Walk.{BeginsAt, at-end, at-cut}
-use Rattle.molecule_fields.specs.Widths.{every, wellFormed}
+use Rattle.molecule_fields.specs.Widths.{wellFormed}
 use Rattle.molecule_encoding.specs.Format.{follows, ascendAfter, ascending, fieldsFit}
 
 pub not-below : (last tag : ℕ) → follows last tag ≡ true → last ≤ tag

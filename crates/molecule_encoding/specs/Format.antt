@@ -6,9 +6,10 @@ use mathlib.Core.Bool.{Bool, true, false, cond, not, _&&_, _||_}
 use mathlib.Core.List.{List, [], _∷_}
 use lib.Dec.{eqb, ltb, leb}
 use lib.ListN.{length}
+use Rattle.lists.specs.Every.{every}
 use Rattle.lists.specs.Part.{part}
 use Rattle.fields.specs.Encoding.{Field, Encodes, wholeFields, cutField}
-use Rattle.molecule_fields.specs.Widths.{implies, every, wellFormed}
+use Rattle.molecule_fields.specs.Widths.{implies, wellFormed}
 use Rattle.molecule_encoding.specs.declared.Span.{Span}
 use Rattle.molecule_encoding.specs.declared.StrandFields.{StrandFields}
 use Rattle.molecule_encoding.specs.declared.Molecule.{Molecule}

@@ -1,26 +1,13 @@
 -- A field of an encoded molecule by itself, the tray of document 01: its tag, the widths of its value, and an annotation's pattern and
 -- marks.
 use Prim.Native.Nat.{ℕ, _+_, _*_, _/_, _%_}
-use mathlib.Core.Bool.{Bool, true, false, not, _&&_, _||_}
+use mathlib.Core.Bool.{Bool, not, _&&_, _||_}
 use mathlib.Core.List.{List, [], _∷_}
 use lib.Dec.{eqb, leb}
 use lib.ListN.{length, getD}
+use Rattle.lists.specs.Every.{every, among}
 use Rattle.lists.specs.Table.{tabulate}
 use Rattle.fields.specs.Encoding.{Field, wholeFields, cutField}
-
--- general: for crates/lists
-module _ {A : Type 0} where
-  -- Every element meets p.
-  unfoldable pub every : (A → Bool) → List A → Bool
-  every p [] = true
-  every p (x ∷ xs) = p x && every p xs
-
--- general: for crates/lists
--- A number is one of some numbers.
-abbrev pub among : ℕ → List ℕ → Bool
-among x [] = false
-among x (y ∷ []) = eqb x y
-among x (y ∷ (z ∷ zs)) = eqb x y || among x (z ∷ zs)
 
 -- Where the first holds, so does the second.
 abbrev pub implies : Bool → Bool → Bool

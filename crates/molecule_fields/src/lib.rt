@@ -1,8 +1,9 @@
 // A field of an encoded molecule by itself, the tray of document 01: its tag, the widths of its value, and an annotation's pattern
 // and marks. Uses lists and fields.
 ghost use mathlib.Core.Path.{_≡_};
+ghost use Rattle.lists.specs.Every.{every, among};
 ghost use Rattle.fields.specs.Encoding.{field, fieldAt};
-ghost use Rattle.molecule_fields.specs.Widths.{among, annotationTags, knownTag, lengthFits, every, isBit, marks, bitsFit, wellFormed};
+ghost use Rattle.molecule_fields.specs.Widths.{annotationTags, knownTag, lengthFits, isBit, marks, bitsFit, wellFormed};
 use fields::FieldAt;
 use lists::at_u8;
 use lists::part_u8;

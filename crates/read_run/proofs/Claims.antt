@@ -12,31 +12,18 @@ use borrow.Author.Tests.{le-ltb, leb-true}
 use lib.Dec.{eqb, leb}
 use lib.ListN.{length, take, drop}
 use lib.Seq.{drop-drop, take-nil}
+use Rattle.lists.specs.Every.{every}
 use Rattle.lists.specs.Part.{leaves, part}
+use Rattle.lists.proofs.Part.{part-after}
 use Rattle.refusals.proofs.Condition.{both-hold}
 use Rattle.fields.specs.Encoding.{Field, Fields, wholeFields, cutField, nextField, fieldAt}
 use Rattle.fields.specs.declared.FieldAt.{FieldAt}
 use Rattle.fields.specs.declared.NextField.the-variants.{End, Cut}
 use Rattle.fields.proofs.Walk.{BeginsAt, at-end, at-cut, along}
-use Rattle.molecule_fields.specs.Widths.{every, isRead, isRun}
+use Rattle.molecule_fields.specs.Widths.{isRead, isRun}
 use Rattle.source_reads.specs.Reads.{readLeaves, anyLeaves}
 use Rattle.source_reads.specs.declared.SourceRead.{SourceRead}
 use Rattle.read_run.specs.Run.{flagsOf, readOf, readsFrom, readsOf}
-
--- general: for crates/lists
-drop-take : {A : Type 0} (m n : ℕ) (l : List A) → drop m (take n l) ≡ take (n - m) (drop m l)
-drop-take zero n l = rw sub-zero
-drop-take (suc m) zero l = rw zero-sub
-drop-take (suc m) (suc n) [] = sym (take-nil (suc n - suc m))
-drop-take (suc m) (suc n) (x ∷ l) = rw suc-sub-suc (drop-take m n l)
-
--- general: for crates/lists
--- The end of a part.
-part-after : {A : Type 0} (k offset n : ℕ) (xs : List A) → k ≤ n → offset + n ≤ length xs → part (offset + k) (n - k) xs ≡ drop k (part offset n xs)
-unfolding part leaves
-part-after k offset n xs h within =
-    let end : offset + k + (n - k) ≤ length xs = omega arith in
-    rw (le-ltb _ _ end, le-ltb _ _ within, drop-take k n (drop offset xs), drop-drop k offset xs)
 
 -- One more read within a buffer of n bytes.
 stays-too : (n : ℕ) (read : SourceRead) (reads : List SourceRead) → readLeaves n read ≡ false → anyLeaves n reads ≡ false → anyLeaves n (read ∷ reads) ≡ false

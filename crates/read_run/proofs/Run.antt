@@ -9,12 +9,13 @@ use Prim.Native.Nat.{ℕ, _+_, _-_, _≤_, _<_}
 use native.Mathlib.Omega.{arith}
 use lib.Dec.{eqb, leb}
 use lib.ListN.{length, drop}
+use Rattle.lists.specs.Every.{every}
 use Rattle.fields.specs.Encoding.{Field, Fields, fields, fieldsOf, wholeFields, cutField, nextField, fieldAt}
 use Rattle.fields.specs.declared.FieldAt.{FieldAt}
 use Rattle.fields.specs.declared.NextField.{NextField}
 use Rattle.fields.specs.declared.NextField.the-variants.{End as End-field, Cut, Whole}
 use Rattle.fields.proofs.Walk.{BeginsAt, at-end, at-cut, at-whole}
-use Rattle.molecule_fields.specs.Widths.{every, isRead, isRun}
+use Rattle.molecule_fields.specs.Widths.{isRead, isRun}
 use Rattle.source_reads.specs.declared.SourceRead.{SourceRead}
 use Rattle.read_run.specs.Run.{flagsOf, readsFrom, readAt, nextRead}
 use Rattle.read_run.specs.declared.NextRead.the-variants.{End, Broken, Read}

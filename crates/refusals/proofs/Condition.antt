@@ -1,16 +1,17 @@
 -- What a condition of the table says where it is not met.
 --     not-too-long, not-ragged, not-too-short     of each length
---     nor-where, both-hold                        of tests joined by `||` and `&&`
+--     all-reach                                   the other way round, of row 12
+--     neither, nor-where, both-hold               of tests joined by `||` and `&&`
 -- Assumes nothing.
 use mathlib.Core.Path.{_≡_, refl, sym}
 use mathlib.Core.Bool.{Bool, true, false, not, _&&_, _||_, true≢false}
 use mathlib.Core.List.{List, [], _∷_}
 use Prim.Native.Nat.{ℕ, _≤_}
-use borrow.Author.Tests.{ltb-false, eqb-true, not-false}
+use borrow.Author.Tests.{ltb-false, le-ltb, eqb-true, not-false}
 use lib.Dec.{eqb, ltb}
 use Rattle.refusals.specs.Refusal.{any, tooLong, tooMany, ragged, tooShort}
 
-neither : (a b : Bool) → (a || b) ≡ false → (a ≡ false) × (b ≡ false)
+pub neither : (a b : Bool) → (a || b) ≡ false → (a ≡ false) × (b ≡ false)
 neither true b e = absurd (true≢false e)
 neither false b e = (refl, e)
 
@@ -47,3 +48,8 @@ not-ragged n = any-false (λ x. not (eqb x n)) (λ x. x ≡ n) (λ x e. eqb-true
 
 pub not-too-short : (n : ℕ) (xs : List ℕ) → tooShort n xs ≡ false → Every (λ x. n ≤ x) xs
 not-too-short n = any-false (λ x. ltb x n) (λ x. n ≤ x) (λ x e. ltb-false x n e)
+
+pub all-reach : (n : ℕ) (xs : List ℕ) → Every (λ x. n ≤ x) xs → tooShort n xs ≡ false
+all-reach n [] e = refl
+all-reach n (x ∷ []) e = le-ltb x n (e .0)
+all-reach n (x ∷ (y ∷ ys)) e = rw (le-ltb x n (e .0)) (all-reach n (y ∷ ys) (e .1))

@@ -1,7 +1,4 @@
 -- Laws of what is written to a lent output, place by place, and of counts that one more read is added to.
---     put-front, put-rest        a written place, and one past those
---     table-front, table-rest    the same of a table
---     ahead                      a loop that fills an output has not changed the place of its next store
 --     Adding                     the invariant of a loop that adds one more where a position is met: start, within, few, further, all-added
 --     fewer-places               positions that are not met need no store
 --     one-read-more              one more read, of counts that are a table
@@ -19,33 +16,8 @@ use Rattle.lists.specs.Output.{put}
 use Rattle.lists.specs.Table.{tabulate}
 use Rattle.lists.proofs.Output.{length-put, Filling, begin, same, fits, next, done}
 use Rattle.lists.proofs.Table.{length-tabulate, getD-tabulate}
+use Rattle.lists.proofs.Written.{table-front, table-behind, unwritten}
 use Rattle.simplex_methylation.specs.Simplex.{added, Below}
-
--- general: for crates/lists
-module _ {A : Type 0} (d : A) where
-  pub put-front : (xs out : List A) (i : ℕ) → i < length xs → getD (put xs out) i d ≡ getD xs i d
-  unfolding put
-  put-front xs out i h = List·getD-append xs (drop (length xs) out) d i h
-
-  pub put-rest : (xs out : List A) (i : ℕ) → length xs ≤ i → getD (put xs out) i d ≡ getD out i d
-  unfolding put
-  put-rest xs out i h =
-      let k = i - length xs in
-      let at : i ≡ length xs + k = omega arith in
-      ap (λ (j : ℕ). getD (xs ++ drop (length xs) out) j d) at
-      ∙ getD-append-add xs (drop (length xs) out) k d
-      ∙ getD-drop (length xs) out k d
-      ∙ ap (λ (j : ℕ). getD out j d) (sym at)
-
-  module _ (n : ℕ) (f : ℕ → A) (out : List A) (i : ℕ) where
-    pub table-front : i < n → getD (put (tabulate n f) out) i d ≡ f i
-    table-front h = put-front (tabulate n f) out i (omega (arith, length-tabulate n f)) ∙ getD-tabulate n f i d h
-
-    pub table-rest : n ≤ i → getD (put (tabulate n f) out) i d ≡ getD out i d
-    table-rest h = put-rest (tabulate n f) out i (omega (arith, length-tabulate n f))
-
-  pub ahead : {n i : ℕ} {xs before now : List A} → Filling n xs before i now → getD now i d ≡ getD before i d
-  ahead {n} {i} {xs} {before} f = ap (λ (l : List A). getD l i d) (f .so-far) ∙ put-rest (take i xs) before i (omega (arith, length-take i xs))
 
 -- A place is below n, or not.
 pub by-place : (i n : ℕ) {P : Type 0} → (i < n → P) → (n ≤ i → P) → P
@@ -85,12 +57,12 @@ module _ {n : ℕ} {met : ℕ → Bool} {before : List ℕ} {i : ℕ} {now : Lis
   within l = fits (a .filling) l
 
   pub few : i < n → getD now i 0 < 1024
-  few l = omega (arith, ahead 0 (a .filling), a .below i l)
+  few l = omega (arith, unwritten 0 (a .filling), a .below i l)
 
   pub further : i < n → {b : Bool} {v : ℕ} → b ≡ met i → v ≡ cond b (getD now i 0 + 1) (getD now i 0) → Adding n met before (i + 1) (set now i v)
   unfolding added
   further l e f = record {
-    filling = next 0 _ (a .filling) l (rw (f, e, ahead 0 (a .filling)) (sym (getD-tabulate n _ i 0 l)));
+    filling = next 0 _ (a .filling) l (rw (f, e, unwritten 0 (a .filling)) (sym (getD-tabulate n _ i 0 l)));
     below = a .below;
   }
 
@@ -117,9 +89,9 @@ fewer-places {places} {n} met met′ xs h k same past = same-tables 0 places n f
     each i =
         by-place i places
         (λ l. table-front 0 places f xs i l ∙ ap (λ (b : Bool). cond b (getD xs i 0 + 1) (getD xs i 0)) (same i l) ∙ sym (table-front 0 n g xs i (omega arith)))
-        (λ o. table-rest 0 places f xs i o ∙ by-place i n
+        (λ o. table-behind 0 places f xs i o ∙ by-place i n
         (λ l. ap (λ (b : Bool). cond b (getD xs i 0 + 1) (getD xs i 0)) (sym (past i o l)) ∙ sym (table-front 0 n g xs i l))
-        (λ l. sym (table-rest 0 n g xs i l)))
+        (λ l. sym (table-behind 0 n g xs i l)))
 
 pub one-read-more :
     (n : ℕ) (met : ℕ → Bool) (c : ℕ → ℕ) (out : List ℕ) {xs : List ℕ}
@@ -142,4 +114,4 @@ one-read-more n met c out {xs} h e = same-tables 0 n n f (more met c) xs out (om
     each i =
         by-place i n
         (λ l. table-front 0 n f xs i l ∙ ap (λ (v : ℕ). cond (met i) (v + 1) v) (was i l) ∙ sym (table-front 0 n (more met c) out i l))
-        (λ o. table-rest 0 n f xs i o ∙ ap (λ (l : List ℕ). getD l i 0) e ∙ table-rest 0 n c out i o ∙ sym (table-rest 0 n (more met c) out i o))
+        (λ o. table-behind 0 n f xs i o ∙ ap (λ (l : List ℕ). getD l i 0) e ∙ table-behind 0 n c out i o ∙ sym (table-behind 0 n (more met c) out i o))

@@ -16,34 +16,16 @@ use lib.Seq.{take-all}
 use Rattle.lists.specs.Count.{countIf, countOf}
 use Rattle.lists.specs.Output.{unless, put, after}
 use Rattle.lists.specs.Table.{tabulate}
+use Rattle.lists.proofs.Count.{counts-few}
 use Rattle.lists.proofs.Fold.{fold-next}
 use Rattle.lists.proofs.Output.{length-put, after-passed}
-use Rattle.lists.proofs.Table.{length-tabulate}
+use Rattle.lists.proofs.Table.{length-tabulate, repeated}
+use Rattle.lists.proofs.Written.{table-front}
+use Rattle.refusals.proofs.Condition.{neither}
 use Rattle.source_reads.specs.Reads.{none, readLeaves, anyLeaves}
 use Rattle.source_reads.specs.declared.SourceRead.{SourceRead}
 use Rattle.simplex_methylation.specs.Simplex.{Setting, shown, countsOf, added, Below}
-use Rattle.simplex_methylation.proofs.Counts.{table-front, one-read-more}
-
--- general: for crates/lists
-zeros : (n : ℕ) → replicate {A = ℕ} n 0 ≡ tabulate n (λ i. 0)
-unfolding tabulate
-zeros zero = refl
-zeros (suc n) = ap (λ (l : List ℕ). 0 ∷ l) (zeros n)
-
--- general: for crates/lists
-module _ {A : Type 0} (p : A → Bool) where
-  counts-few : (c : ℕ) (xs : List A) → foldl (countIf p) c xs ≤ c + length xs
-  unfolding countIf
-  counts-few c [] = omega arith
-  counts-few c (x ∷ xs) = go (p x) (counts-few (c + 1) xs) (counts-few c xs)
-    where
-      go : (b : Bool) → foldl (countIf p) (c + 1) xs ≤ c + 1 + length xs → foldl (countIf p) c xs ≤ c + length xs → foldl (countIf p) (cond b (c + 1) c) xs ≤ c + suc (length xs)
-      go true more same = omega arith
-      go false more same = omega arith
-
-neither : (a b : Bool) → (a || b) ≡ false → (a ≡ false) × (b ≡ false)
-neither true b e = absurd (true≢false e)
-neither false b e = (refl, e)
+use Rattle.simplex_methylation.proofs.Counts.{one-read-more}
 
 module _ (size : ℕ) where
   none-leaves :
@@ -71,7 +53,7 @@ module _ (s : Setting) (letter : ℕ) (ys : List SourceRead) (n : ℕ) (before :
 
   pub begun : {number : ℕ} {now : List ℕ} → now ≡ after number (replicate n 0) before → Running number 0 now
   unfolding countsOf countOf
-  begun {number} e = record { so-far = e ∙ ap (λ (l : List ℕ). after number l before) (zeros n) }
+  begun {number} e = record { so-far = e ∙ ap (λ (l : List ℕ). after number l before) (repeated n 0) }
 
   module _ {k : ℕ} {now : List ℕ} (r : Running 0 k now) where
     put-so-far : now ≡ put (countsOf s letter (take k ys) n) before
@@ -81,7 +63,7 @@ module _ (s : Setting) (letter : ℕ) (ys : List SourceRead) (n : ℕ) (before :
     unfolding countsOf countOf
     ready l room = (
       omega (arith, room, ap length put-so-far, length-put (countsOf s letter (take k ys) n) before (omega (arith, room, length-tabulate n (λ i. countOf (shown s letter i) (take k ys))))),
-      λ i h. omega (arith, ap (λ (l : List ℕ). getD l i 0) put-so-far, table-front 0 n (λ j. countOf (shown s letter j) (take k ys)) before i h, counts-few (shown s letter i) 0 (take k ys), length-take k ys),
+      λ i h. omega (arith, ap (λ (l : List ℕ). getD l i 0) put-so-far, table-front 0 n (λ j. countOf (shown s letter j) (take k ys)) before i h, counts-few (shown s letter i) (take k ys), length-take k ys),
     )
 
     pub added-next : k < length ys → n ≤ length before → {next : List ℕ} → next ≡ put (added n (λ i. shown s letter i (getD ys k none)) now) now → Running 0 (k + 1) next

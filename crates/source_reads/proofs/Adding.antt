@@ -11,10 +11,10 @@ use lib.ListN.{length, getD, set}
 use Rattle.lists.specs.Table.{tabulate}
 use Rattle.lists.proofs.Output.{Filling, begin, next, done}
 use Rattle.lists.proofs.Table.{length-tabulate, getD-tabulate}
+use Rattle.lists.proofs.Written.{unwritten}
 use Rattle.duplex_molecule.specs.Molecule.{isError}
 use Rattle.source_reads.specs.Bases.{basesErrors}
 use Rattle.source_reads.specs.Reads.{oneMore}
-use Rattle.source_reads.proofs.Written.{unwritten}
 
 -- The number at a position after the read.
 abbrev rule : List ℕ → (ℕ → ℕ) → List ℕ → ℕ → ℕ
@@ -38,7 +38,7 @@ module _ {n : ℕ} {bases before : List ℕ} {shown : ℕ → ℕ} where
     turn h s e w =
         let counted = e ∙ ap (λ (base : ℕ). isError (getD bases i 0) base) s in
         record {
-          filling = next 0 _ (a .filling) h (w ∙ ap₂ oneMore counted (unwritten i 0 (a .filling) (omega arith)) ∙ sym (getD-tabulate n (rule bases shown before) i 0 h));
+          filling = next 0 _ (a .filling) h (w ∙ ap₂ oneMore counted (unwritten 0 (a .filling)) ∙ sym (getD-tabulate n (rule bases shown before) i 0 h));
         }
 
     pub end : n ≤ i → now ≡ basesErrors n bases shown before

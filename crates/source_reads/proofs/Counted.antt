@@ -23,10 +23,12 @@ use Rattle.lists.specs.Count.{countIf, countOf}
 use Rattle.lists.specs.Output.{put}
 use Rattle.lists.specs.Part.{leaves, part}
 use Rattle.lists.specs.Table.{tabulate}
-use Rattle.lists.proofs.Output.{length-put, put-equal}
+use Rattle.lists.proofs.Output.{length-put, put-equal, put-over}
 use Rattle.lists.proofs.Part.{stays, part-outside, part-within}
-use Rattle.lists.proofs.Table.{length-tabulate, getD-tabulate}
+use Rattle.lists.proofs.Table.{length-tabulate, getD-tabulate, tabulate-equal}
+use Rattle.lists.proofs.Written.{table-front, put-more}
 use Rattle.numbers.specs.Numbers.{saturatingAdd}
+use Rattle.numbers.proofs.Numbers.{smallest-le}
 use Rattle.flags.specs.Flags.{isSet, lastSegment}
 use Rattle.duplex_molecule.specs.Molecule.{isError, callAt}
 use Rattle.duplex_molecule.specs.declared.CtInput.{CtInput}
@@ -35,8 +37,6 @@ use Rattle.duplex_call.specs.Annotated.{expected}
 use Rattle.source_reads.specs.Bases.{unmaskedAt, Within, basesErrors}
 use Rattle.source_reads.specs.Reads.{none, readLeaves, reaches, readError, readErrors, oneMore, addError, addedErrors, expectedAt, countedLength, countedErrors}
 use Rattle.source_reads.specs.declared.SourceRead.{SourceRead}
-use Rattle.source_reads.proofs.Smallest.{smallest-le}
-use Rattle.source_reads.proofs.Written.{getD-written, put-over, table-equal, put-more}
 
 -- ---- the positions that are counted
 module _ (positions : ℕ) (basesA qualsA basesB qualsB errors : List ℕ) where
@@ -102,7 +102,7 @@ module _ (bytes : List ℕ) (read : SourceRead) (expected : ℕ → Bool → ℕ
   pub one-read : (n : ℕ) (errors : List ℕ) {m : ℕ} → m ≡ min n (length bases) → n ≤ length errors → basesErrors m bases shown errors ≡ addedErrors n bytes expected (read ∷ []) errors
   unfolding basesErrors addedErrors addError oneMore
   one-read n errors {m} e room =
-      put-equal errors (table-equal m (λ i. oneMore (isError (getD bases i 0) (shown i)) (getD errors i 0)) after (λ i l. ap (λ (b : Bool). oneMore b (getD errors i 0)) (within i (omega arith))))
+      put-equal errors (tabulate-equal m (λ i. oneMore (isError (getD bases i 0) (shown i)) (getD errors i 0)) after (λ i l. ap (λ (b : Bool). oneMore b (getD errors i 0)) (within i (omega arith))))
       ∙ put-more m n after errors 0 (omega arith) room unchanged
     where
       after : ℕ → ℕ
@@ -141,8 +141,8 @@ module _ (n : ℕ) (bytes : List ℕ) (expected : ℕ → Bool → ℕ) where
   added-then : (xs ys : List SourceRead) (errors : List ℕ) → n ≤ length errors → addedErrors n bytes expected ys (addedErrors n bytes expected xs errors) ≡ addedErrors n bytes expected (xs ++ ys) errors
   unfolding addedErrors
   added-then xs ys errors room =
-      put-over (tabulate n later) (tabulate n first) errors (length-tabulate n later ∙ sym (length-tabulate n first))
-      ∙ put-equal errors (table-equal n later both (λ i l. ap (λ (z : ℕ). foldl (add i) z ys) (before i l) ∙ sym (foldl-append (add i) (getD errors i 0) xs ys)))
+      put-over (tabulate n later) (tabulate n first) errors (omega (arith, length-tabulate n later, length-tabulate n first))
+      ∙ put-equal errors (tabulate-equal n later both (λ i l. ap (λ (z : ℕ). foldl (add i) z ys) (before i l) ∙ sym (foldl-append (add i) (getD errors i 0) xs ys)))
     where
       add : ℕ → ℕ → SourceRead → ℕ
       add i = addError bytes (expected i) i
@@ -157,7 +157,7 @@ module _ (n : ℕ) (bytes : List ℕ) (expected : ℕ → Bool → ℕ) where
       both i = foldl (add i) (getD errors i 0) (xs ++ ys)
 
       before : (i : ℕ) → i < n → getD (put (tabulate n first) errors) i 0 ≡ first i
-      before i l = getD-written (tabulate n first) errors i 0 (omega (arith, length-tabulate n first)) ∙ getD-tabulate n first i 0 l
+      before i l = table-front 0 n first errors i l
 
   added-same : (reads : List SourceRead) (errors : List ℕ) → n ≤ length errors → length (addedErrors n bytes expected reads errors) ≡ length errors
   unfolding addedErrors

@@ -1,6 +1,4 @@
 pub mod Adding
 pub mod Counted
 pub mod Relend
-pub mod Smallest
 pub mod Walk
-pub mod Written

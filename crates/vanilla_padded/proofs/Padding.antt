@@ -2,7 +2,6 @@
 --     padTo-length     a padded array has the new length
 --     padTo-same       to the same length it is a copy
 --     padded-left, padded-right     what a fill and a copy, each of a part of the output, write
---     copied-part      a copy of so many places
 -- Assumes nothing.
 use mathlib.Core.Path.{_≡_, refl, sym, ap, _∙_}
 use mathlib.Core.Bool.{Bool, true, false, cond}
@@ -14,7 +13,7 @@ use lib.ListN.{length, take, replicate, length-append, length-replicate, length-
 use lib.Seq.{take-all}
 use borrow.Rule.Slice.PartMut.{putMid, midOf}
 use Rattle.lists.specs.Output.{put}
-use Rattle.lists.proofs.Output.{put-fitting, copy-next, fill-next}
+use Rattle.lists.proofs.Output.{put-fitting, copy-next, fill-next, put-none}
 use Rattle.vanilla_padded.specs.Padding.{padTo}
 
 module _ {A : Type 0} (v : A) (xs : List A) where
@@ -33,10 +32,6 @@ module _ {A : Type 0} (v : A) (xs out : List A) (n : ℕ) (fits : length xs ≤ 
   abbrev added : ℕ
   added = n - length xs
 
-  nothing : out ≡ put [] out
-  unfolding put
-  nothing = refl
-
   -- On the left the padding is filled in first, and then the array copied behind it. L is the output in between.
   pub padded-left :
       {Y Z : List A}
@@ -45,7 +40,7 @@ module _ {A : Type 0} (v : A) (xs out : List A) (n : ℕ) (fits : length xs ≤ 
       → putMid added (n - added) (putMid 0 (added - 0) out Y) Z ≡ put (padTo n true v xs) out
   unfolding padTo
   padded-left y z =
-      let filled = fill-next [] out (added - 0) nothing refl (omega arith) v y in
+      let filled = fill-next [] out (added - 0) (put-none out) refl (omega arith) v y in
       let size : added ≡ length (replicate (added - 0) v) = omega (arith, length-replicate (added - 0) v) in
       copy-next (replicate (added - 0) v) out (n - added) filled size (omega arith) xs (omega arith) z
       ∙ rw (sub-zero added)
@@ -57,8 +52,4 @@ module _ {A : Type 0} (v : A) (xs out : List A) (n : ℕ) (fits : length xs ≤ 
       → (let L = putMid 0 (length xs - 0) out Y in Z ≡ replicate (length (midOf (length xs) added L)) v)
       → putMid (length xs) added (putMid 0 (length xs - 0) out Y) Z ≡ put (padTo n false v xs) out
   unfolding padTo
-  padded-right y z = fill-next xs out added (copy-next [] out (length xs - 0) nothing refl (omega arith) xs (omega arith) y) refl (omega arith) v z
-
--- A copy of the first n places of xs, as the part 0..n, to an output that has room for them.
-pub copied-part : {A : Type 0} (xs out : List A) (n : ℕ) → n ≤ length out → put (take (length out) (take (n - 0) xs)) out ≡ put (take n xs) out
-copied-part xs out n h = rw (sub-zero n) (put-fitting (take n xs) out (omega (arith, length-take n xs)))
+  padded-right y z = fill-next xs out added (copy-next [] out (length xs - 0) (put-none out) refl (omega arith) xs (omega arith) y) refl (omega arith) v z

@@ -4,8 +4,9 @@ use mathlib.Core.Path.{sym, _∙_}
 use Prim.Native.Nat.{ℕ, _<_, _≤_, _/_, _%_}
 use native.Mathlib.Omega.{arith}
 use borrow.Author.Needs.{needs}
+use Rattle.lists.proofs.Output.{fitting-snoc}
 use Rattle.decimal.specs.Decimal.{digit, decimal}
-use Rattle.decimal.proofs.Decimal.{decimal-more, length-one, length-more, digits-within, put-first, put-more}
+use Rattle.decimal.proofs.Decimal.{decimal-more, length-one, length-more, digits-within, put-first}
 use borrow.Fn.Kinds.{In}
 use borrow.Fn.PlainCycle.{Measures, is, falls, and}
 use Rattle.decimal.proofs.write_decimal.Reads as write-decimal
@@ -65,7 +66,7 @@ module _ (t : ℕ) where
       let large : 10 ≤ n = c .before .before .before .before .before .before .before .before .if1 .left in
       let rest = c .before .before .before .before .before .before .write-decimal .ensures in (
         omega (arith, rest .0, length-more n large),
-        c .before .before .write-digit2 .ensures ∙ rw (rest .0, rest .1, decimal-more n large) (put-more (decimal (n / 10)) out (digit (n % 10))),
+        c .before .before .write-digit2 .ensures ∙ rw (rest .0, rest .1, decimal-more n large) (fitting-snoc (decimal (n / 10)) out (digit (n % 10))),
       )
 
 pub +write-decimal-spec : {M : Type 1} → statement M

@@ -5,10 +5,9 @@ use mathlib.Core.List.{[]}
 use native.Mathlib.Omega.{arith}
 use Rattle.lists.specs.Table.{tabulate}
 use Rattle.lists.proofs.Output.{Filling, begin, same, fits, next, done}
-use Rattle.lists.proofs.Table.{length-tabulate}
+use Rattle.lists.proofs.Table.{length-tabulate, tabulated}
 use Rattle.methylation.specs.declared.Evidence.{Evidence}
 use Rattle.vanilla_caller.specs.Strand.{arrays}
-use Rattle.duplex_arrays.proofs.Positions.{tabulated}
 use Rattle.duplex_evidence.specs.Kept.{evidenceOf}
 use Rattle.duplex_evidence.proofs.Kept.{evidence-by}
 use Rattle.duplex_evidence.proofs.fill_evidence.Statement.{statement}

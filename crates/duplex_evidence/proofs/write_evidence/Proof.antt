@@ -3,10 +3,11 @@
 use mathlib.Core.Path.{sym, _∙_}
 use native.Mathlib.Nat.{le-trans}
 use borrow.Author.Needs.{needs}
+use Rattle.lists.proofs.Written.{put-places}
 use Rattle.methylation.specs.Methylation.{isAnnotated}
 use Rattle.duplex_arrays.proofs.Short.{reached, nothing-written, all-written}
 use Rattle.duplex_evidence.specs.Kept.{keptMarks, keptUnconverted, keptConverted}
-use Rattle.duplex_evidence.proofs.Kept.{at-most, put-places}
+use Rattle.duplex_evidence.proofs.Kept.{at-most}
 use Rattle.duplex_evidence.proofs.write_evidence.Statement.{statement}
 use Rattle.duplex_evidence.proofs.write_evidence.Tie as tie
 

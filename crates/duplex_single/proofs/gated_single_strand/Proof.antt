@@ -2,10 +2,10 @@
 -- Assumes nothing.
 use mathlib.Core.Path.{_∙_}
 use mathlib.Core.List.{[]}
-use Rattle.lists.proofs.Output.{answer-refused, answer-passed, put-equal, put-fitting}
+use Rattle.lists.proofs.Output.{answer-refused, answer-passed, put-equal, put-fitting, put-none}
 use Rattle.duplex_outputs.proofs.Outputs.{record-refused, record-passed}
 use Rattle.duplex_single.specs.declared.SingleStrandRecord.the-variants.{Refused}
-use Rattle.duplex_single.proofs.Gated.{put-none, marks-or-none, unconverted-or-none, converted-or-none}
+use Rattle.duplex_single.proofs.Gated.{marks-or-none, unconverted-or-none, converted-or-none}
 use Rattle.duplex_single.proofs.Room.{room}
 use Rattle.duplex_single.proofs.gated_single_strand.Statement.{statement}
 use Rattle.duplex_single.proofs.gated_single_strand.Tie as tie

@@ -4,8 +4,8 @@ use native.Mathlib.Omega.{arith}
 use borrow.Author.Needs.{needs}
 use denote.Ref.{now}
 use lib.ListN.{length}
+use Rattle.lists.proofs.Output.{written}
 use Rattle.methylation_evidence.specs.Counts.{tagCounts, summedCounts}
-use Rattle.duplex_texts.proofs.Fits.{written}
 use Rattle.duplex_tags.specs.Tags.{countsOf}
 use Rattle.duplex_tags.proofs.Fits.{counts-fit, summed-fit}
 use Rattle.duplex_tags.proofs.Counts.{counted, within, counts-places, few-places}

@@ -4,8 +4,10 @@ use Prim.Native.Nat.{_-_}
 use borrow.Author.Needs.{needs}
 use denote.Ref.{now}
 use lib.ListN.{length, take}
+use native.Mathlib.Nat.{sub-zero}
+use Rattle.lists.proofs.Output.{front-of}
 use Rattle.duplex_texts.specs.Texts.{restoredSeq}
-use Rattle.duplex_texts.proofs.Texts.{seq-length, front}
+use Rattle.duplex_texts.proofs.Texts.{seq-length}
 use Rattle.duplex_texts.proofs.make_texts.Statement.{statement}
 use Rattle.duplex_texts.proofs.make_texts.Tie as tie
 
@@ -20,7 +22,7 @@ made :
     take (length (now (a .bases)) - 0) (c .restore-both .last .1 .1 .1 .1 .1 .0) ≡ restoredSeq (now (a .bases)) (a .a-annotation) (now (a .a-marks)) (a .b-annotation) (now (a .b-marks))
 made c =
     let a = first c .args in
-    front _ _ (c .restore-both .ensures) (sym (seq-length (now (a .bases)) (a .a-annotation) (now (a .a-marks)) (a .b-annotation) (now (a .b-marks))))
+    front-of _ _ (c .restore-both .ensures) (sub-zero _ ∙ sym (seq-length (now (a .bases)) (a .a-annotation) (now (a .a-marks)) (a .b-annotation) (now (a .b-marks))))
 
 long :
     (c : tie.After-restore-both)

@@ -5,12 +5,12 @@ use borrow.Author.Needs.{needs}
 use denote.Ref.{now}
 use lib.ListN.{length}
 use Rattle.lists.specs.Output.{put}
-use Rattle.lists.proofs.Output.{put-equal}
+use Rattle.lists.proofs.Output.{put-equal, written}
 use Rattle.methylation.specs.Methylation.{isAnnotated}
 use Rattle.methylation_restore.specs.Restore.{strandBases}
 use Rattle.methylation_restore.proofs.Restored.{strand-absent, strand-of}
 use Rattle.duplex_texts.specs.Texts.{restoredSeq}
-use Rattle.duplex_texts.proofs.Fits.{written, bases-fit}
+use Rattle.duplex_texts.proofs.Fits.{bases-fit}
 use Rattle.duplex_texts.proofs.Texts.{first-length, part-restored}
 use Rattle.duplex_texts.proofs.restore_both.Statement.{statement}
 use Rattle.duplex_texts.proofs.restore_both.Tie as tie

@@ -1,7 +1,7 @@
 -- `duplex_texts::write_front` meets its contract: a copy of so many bytes. Assumes nothing.
 use mathlib.Core.Path.{_∙_}
 use borrow.Author.Needs.{needs}
-use Rattle.methylation_evidence.proofs.Truncating.{copied-part}
+use Rattle.lists.proofs.Output.{copied-part}
 use Rattle.duplex_texts.proofs.write_front.Statement.{statement}
 use Rattle.duplex_texts.proofs.write_front.Tie as tie
 

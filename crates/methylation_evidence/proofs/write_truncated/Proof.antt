@@ -2,8 +2,8 @@
 use mathlib.Core.Path.{_∙_}
 use borrow.Author.Needs.{needs}
 use Rattle.lists.specs.Output.{unless, after}
+use Rattle.lists.proofs.Output.{copied-part, copied-map}
 use Rattle.vanilla_caller.specs.Strand.{mark}
-use Rattle.methylation_evidence.proofs.Truncating.{copied-part, copied-map}
 use Rattle.methylation_evidence.proofs.write_truncated.Statement.{statement}
 use Rattle.methylation_evidence.proofs.write_truncated.Tie as tie
 

@@ -3,7 +3,7 @@ use Prim.Native.Nat.{_-_}
 use native.Mathlib.Omega.{arith}
 use mathlib.Core.Path.{_∙_}
 use Rattle.lists.proofs.Output.{Filling, begin, same, fits, next, done}
-use Rattle.methylation_evidence.proofs.InPlace.{unwritten}
+use Rattle.lists.proofs.Written.{unwritten}
 use Rattle.methylation_restore.specs.Restore.{restoredTo}
 use Rattle.methylation_restore.proofs.Restored.{restored-length, restored-at}
 use Rattle.methylation_restore.proofs.restore.Statement.{statement}

@@ -6,9 +6,10 @@ use Prim.Native.Nat.{ℕ, _+_, _*_, _-_, _/_, _≤_, _<_}
 use native.Mathlib.Omega.{arith}
 use borrow.Author.Tests.{le-leb, lt-leb}
 use lib.ListN.{length, drop, getD}
+use Rattle.lists.specs.Every.{every}
+use Rattle.lists.proofs.Every.{every-passed, every-failed, every-none}
 use Rattle.lists.proofs.Table.{length-tabulate, getD-tabulate}
-use Rattle.molecule_fields.specs.Widths.{every, isBit, marks}
-use Rattle.molecule_fields.proofs.Every.{every-passed, every-failed, every-none}
+use Rattle.molecule_fields.specs.Widths.{isBit, marks}
 use Rattle.molecule_fields.proofs.marks_fit.Statement.{statement}
 use Rattle.molecule_fields.proofs.marks_fit.Tie as tie
 

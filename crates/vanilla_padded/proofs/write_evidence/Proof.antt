@@ -1,7 +1,7 @@
 -- `vanilla_padded::write_evidence` meets its contract: each output is as the call that wrote it left it. Assumes nothing.
 use mathlib.Core.Path.{_∙_}
 use borrow.Author.Needs.{needs}
-use Rattle.vanilla_padded.proofs.Padding.{copied-part}
+use Rattle.lists.proofs.Output.{copied-part}
 use Rattle.vanilla_padded.proofs.write_evidence.Statement.{statement}
 use Rattle.vanilla_padded.proofs.write_evidence.Tie as tie
 

@@ -1,11 +1,10 @@
--- The smallest of some numbers is no more than each of them. general: for crates/numbers
--- Assumes nothing.
+-- The smallest of some numbers is no more than each of them. Assumes nothing.
 use mathlib.Core.List.{List, [], _∷_, foldl}
 use Prim.Native.Nat.{ℕ, zero, suc, _≤_, _<_, min}
 use native.Mathlib.Nat.{le-trans, min-le-left, min-le-right, not-suc-le-zero, le-of-suc-le-suc}
 use native.Mathlib.Omega.{arith}
 use lib.ListN.{length, getD}
 use Rattle.numbers.specs.Numbers.{smallest}
 
 from-start : (ns : List ℕ) (start : ℕ) → foldl min start ns ≤ start
 from-start [] start = omega arith

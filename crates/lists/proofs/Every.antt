@@ -1,4 +1,3 @@
--- general: for crates/lists
 -- A loop that tests every element of a list, one a turn, and ends at the first that fails: what is left of the test after i turns.
 --     every-passed, every-failed     by the element at i
 --     every-none                     at the end
@@ -10,7 +9,7 @@ use Prim.Native.Nat.{ℕ, _+_, _≤_, _<_}
 use native.Mathlib.Numerals.{add-one}
 use lib.ListN.{length, drop, getD, drop-of-length-le}
 use lib.Seq.{drop-cons}
-use Rattle.molecule_fields.specs.Widths.{every}
+use Rattle.lists.specs.Every.{every}
 
 module _ {A : Type 0} (p : A → Bool) (xs : List A) (i : ℕ) where
   pub every-passed : (d : A) → i < length xs → p (getD xs i d) ≡ true → every p (drop i xs) ≡ every p (drop (i + 1) xs)
