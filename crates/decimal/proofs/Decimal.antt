@@ -5,11 +5,12 @@
 --     few-digits                    a number below 10 to the power k has at most k digits
 --     only-digits                   each character of the text is a digit's
 --     value-decimal                 the text read back is the number
+--     listed-append                 numbers with a comma before each, in two parts
 --     put-first                     what an output holds when the first digit is stored
 -- Assumes nothing.
-use mathlib.Core.Path.{_≡_, refl, ap, _∙_}
+use mathlib.Core.Path.{_≡_, refl, ap, _∙_, sym}
 use mathlib.Core.Bool.{Bool, true, false, cond}
-use mathlib.Core.List.{List, [], _∷_, _++_, foldl-append}
+use mathlib.Core.List.{List, [], _∷_, _++_, foldl-append, append-assoc}
 use Prim.Native.Nat.{ℕ, zero, suc, _+_, _*_, _/_, _%_, _^_, _≤_, _<_}
 use native.Mathlib.Omega.{arith}
 use native.Mathlib.Nat.{pow-suc}
@@ -19,7 +20,7 @@ use lib.ListN.{length, take, set, length-append, length-take}
 use lib.Seq.{take-nil, take-append-le, set-out}
 use Rattle.lists.specs.Output.{put}
 use Rattle.lists.proofs.Output.{length-put, put-snoc, put-fitting, fitting-snoc}
-use Rattle.decimal.specs.Decimal.{digit, decimalIn, decimal, valueOf}
+use Rattle.decimal.specs.Decimal.{digit, decimalIn, decimal, valueOf, listed}
 
 -- P of each element.
 abbrev pub Each : (ℕ → Type 0) → List ℕ → Type 0
@@ -99,3 +100,8 @@ only-digits P so = by-tenths (λ n. Each P (decimal n)) (λ n h. rw (decimal-one
 pub value-decimal : (n : ℕ) → valueOf (decimal n) ≡ n
 unfolding valueOf
 value-decimal = by-tenths (λ n. valueOf (decimal n) ≡ n) (λ n h. rw (decimal-one n h) (omega arith)) (λ n h so. rw (decimal-more n h, foldl-append, so) (omega arith))
+
+pub listed-append : (xs ys : List ℕ) → listed (xs ++ ys) ≡ listed xs ++ listed ys
+unfolding listed
+listed-append [] ys = refl
+listed-append (x ∷ xs) ys = ap (λ (l : List ℕ). (44 ∷ decimal x) ++ l) (listed-append xs ys) ∙ sym (append-assoc (44 ∷ decimal x) (listed xs) (listed ys))

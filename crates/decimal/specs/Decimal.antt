@@ -21,3 +21,8 @@ decimal n = decimalIn (suc n) n
 -- The number that a text of digits stands for.
 unfoldable pub valueOf : List ℕ → ℕ
 valueOf text = foldl (λ value character. 10 * value + (character - 48)) 0 text
+
+-- Numbers in decimal, a comma (44) before each.
+unfoldable pub listed : List ℕ → List ℕ
+listed [] = []
+listed (n ∷ ns) = (44 ∷ decimal n) ++ listed ns

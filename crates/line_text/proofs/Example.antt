@@ -19,13 +19,13 @@ figures = record { aD = 2; aM = 2; aE = 0; bD = 1; bM = 1; bE = 0; cD = 3; cM = 
 both-kept :
     lineText (Both 4) true (ascii "ACNN") (50 ∷ 70 ∷ 2 ∷ 2 ∷ []) (0 ∷ 0 ∷ 1 ∷ 1 ∷ []) figures
     ≡ ascii "kind gate bases quals errors aD aM aE bD bM bE cD cM cE nc\nboth kept ACNN 50,70,2,2 0,0,1,1 2 2 00000000 1 1 00000000 3 3 3e2aaaab 2\n"
-unfolding figures header gateText columns fieldsText lineText metrics.field metrics.rateField metrics.figuresText metrics.metricsText text.followed text.commaList text.visible text.printed decimals.decimal decimals.decimalIn hexadecimals.digitAt hexadecimals.hexadecimal table.tabulate
+unfolding figures header gateText columns fieldsText lineText metrics.field metrics.rateField metrics.figuresText metrics.metricsText decimals.listed text.commaList text.visible text.printed decimals.decimal decimals.decimalIn hexadecimals.digitAt hexadecimals.hexadecimal table.tabulate
 both-kept = refl
 
 ba-below :
     lineText (Ba 2) false (65 ∷ 127 ∷ []) (2 ∷ 255 ∷ []) (0 ∷ 32767 ∷ []) figures
     ≡ ascii "kind gate bases quals errors aD aM aE bD bM bE cD cM cE nc\nba below A? 2,255 0,32767 2 2 00000000 1 1 00000000 3 3 3e2aaaab 2\n"
-unfolding figures header gateText columns fieldsText lineText metrics.field metrics.rateField metrics.figuresText metrics.metricsText text.followed text.commaList text.visible text.printed decimals.decimal decimals.decimalIn hexadecimals.digitAt hexadecimals.hexadecimal table.tabulate
+unfolding figures header gateText columns fieldsText lineText metrics.field metrics.rateField metrics.figuresText metrics.metricsText decimals.listed text.commaList text.visible text.printed decimals.decimal decimals.decimalIn hexadecimals.digitAt hexadecimals.hexadecimal table.tabulate
 ba-below = refl
 
 no-record : lineText NoRecord false [] [] [] figures ≡ ascii "kind gate bases quals errors aD aM aE bD bM bE cD cM cE nc\nnone\n"

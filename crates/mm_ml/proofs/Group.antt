@@ -14,12 +14,13 @@ use lib.ListN.{length, take, set, length-append, length-map}
 use Rattle.lists.specs.Output.{put}
 use Rattle.lists.specs.Part.{onlyIf}
 use Rattle.lists.proofs.Output.{length-put, put-snoc, put-fitting, put-over, front-of}
+use Rattle.decimal.specs.Decimal.{listed}
 use Rattle.methylation.specs.Methylation.{isEnabled}
 use Rattle.methylation.specs.declared.ConversionPattern.{ConversionPattern}
 use Rattle.methylation.specs.declared.ConversionPattern.the-variants.{CToT, GToA}
 use Rattle.methylation.specs.declared.MethylationMode.{MethylationMode}
 use Rattle.methylation_calls.specs.Calls.{isTracked}
-use Rattle.mm_ml.specs.Text.{prefixOf, listed, groupText}
+use Rattle.mm_ml.specs.Text.{prefixOf, groupText}
 use Rattle.mm_ml.specs.Tags.{Annotated, calledAt, skips, allCalls, allListed, allText, allBytes, calls, mlByte, ifCalled, mmText, mlArray, tagsIfCalled, tagIfCalled}
 use Rattle.mm_ml.specs.declared.Mm.the-variants.{Tag}
 use Rattle.mm_ml.specs.declared.MmMl.the-variants.{Tags}

@@ -19,7 +19,7 @@ use Rattle.decimal.specs.Decimal.{decimal}
 use Rattle.decimal.proofs.Decimal.{few-digits}
 use Rattle.methylation.specs.declared.MethylationMode.{MethylationMode}
 use Rattle.methylation_calls.specs.Calls.{isTracked}
-use Rattle.mm_ml.specs.Text.{placesBelow, listed}
+use Rattle.mm_ml.specs.Text.{placesBelow}
 use Rattle.mm_ml.specs.Tags.{Annotated, calledAt, callsBelow, allCalls, allListed, mlByte, allBytes, Evident}
 use Rattle.mm_ml.proofs.Walk.{Passing, listedBelow, begin, next, called-next, skips-next, calls-last, listed-last, none-listed, listed-within, calls-within}
 

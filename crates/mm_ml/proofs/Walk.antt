@@ -18,9 +18,9 @@ use Rattle.lists.specs.Count.{countIf, countOf}
 use Rattle.lists.specs.Part.{onlyIf}
 use Rattle.lists.proofs.Count.{count-snoc}
 use Rattle.lists.proofs.Part.{slice-next}
-use Rattle.decimal.specs.Decimal.{decimal}
-use Rattle.decimal.proofs.Decimal.{few-digits}
-use Rattle.mm_ml.specs.Text.{placesBelow, letters, skipsFrom, listed}
+use Rattle.decimal.specs.Decimal.{decimal, listed}
+use Rattle.decimal.proofs.Decimal.{few-digits, listed-append}
+use Rattle.mm_ml.specs.Text.{placesBelow, letters, skipsFrom}
 
 -- The position after the last of some, or `from`.
 abbrev pub past : ℕ → List ℕ → ℕ
@@ -30,11 +30,6 @@ past from (p ∷ ps) = past (suc p) ps
 pub past-append : (from : ℕ) (ps qs : List ℕ) → past from (ps ++ qs) ≡ past (past from ps) qs
 past-append from [] qs = refl
 past-append from (p ∷ ps) qs = past-append (suc p) ps qs
-
-pub listed-append : (xs ys : List ℕ) → listed (xs ++ ys) ≡ listed xs ++ listed ys
-unfolding listed
-listed-append [] ys = refl
-listed-append (x ∷ xs) ys = ap (λ (l : List ℕ). (44 ∷ decimal x) ++ l) (listed-append xs ys) ∙ sym (append-assoc (44 ∷ decimal x) (listed xs) (listed ys))
 
 module _ (tracked : ℕ → Bool) (bases : List ℕ) where
   pub letters-none : (from : ℕ) → letters tracked bases from from ≡ 0

@@ -7,11 +7,12 @@ use lib.ListN.{length, getD}
 use Rattle.lists.specs.Output.{answer, after}
 use Rattle.lists.specs.Part.{onlyIf}
 use Rattle.refusals.specs.Refusal.{Fault, _if_, tooLong, ragged, tooShort, refusal}
+use Rattle.decimal.specs.Decimal.{listed}
 use Rattle.methylation.specs.Methylation.{isEnabled}
 use Rattle.methylation.specs.declared.ConversionPattern.{ConversionPattern}
 use Rattle.methylation.specs.declared.MethylationMode.{MethylationMode}
 use Rattle.methylation_calls.specs.Calls.{isTracked, isCalled, mlOf}
-use Rattle.mm_ml.specs.Text.{placesBelow, skipsFrom, listed, groupText}
+use Rattle.mm_ml.specs.Text.{placesBelow, skipsFrom, groupText}
 use Rattle.mm_ml.specs.declared.Mm.{Mm}
 use Rattle.mm_ml.specs.declared.Mm.the-variants.{Refused as Refused-mm, NoTag as NoTag-mm, Tag}
 use Rattle.mm_ml.specs.declared.MmMl.{MmMl}

@@ -5,7 +5,7 @@ use mathlib.Core.List.{List, [], _∷_, _++_}
 use lib.Seq.{slice}
 use Rattle.lists.specs.Count.{countOf}
 use Rattle.lists.specs.Part.{onlyIf}
-use Rattle.decimal.specs.Decimal.{decimal}
+use Rattle.decimal.specs.Decimal.{listed}
 use Rattle.methylation.specs.declared.ConversionPattern.{ConversionPattern}
 use Rattle.methylation.specs.declared.ConversionPattern.the-variants.{CToT, GToA}
 
@@ -29,11 +29,6 @@ abbrev pub prefixOf : ConversionPattern → List ℕ
 prefixOf CToT = 67 ∷ 43 ∷ 109 ∷ 63 ∷ []
 prefixOf GToA = 71 ∷ 45 ∷ 109 ∷ 63 ∷ []
 
--- A comma (44 in ASCII) and the count, for each.
-unfoldable pub listed : List ℕ → List ℕ
-listed [] = []
-listed (count ∷ counts) = (44 ∷ decimal count) ++ listed counts
-
--- A group: the prefix, the skip counts and a semicolon (59).
+-- A group: the prefix, the skip counts, a comma before each, and a semicolon (59).
 unfoldable pub groupText : ConversionPattern → List ℕ → List ℕ
 groupText pattern skips = prefixOf pattern ++ listed skips ++ 59 ∷ []

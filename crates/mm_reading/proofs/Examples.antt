@@ -5,10 +5,10 @@ use Prim.Native.Nat.{ℕ}
 use lib.ListN.{replicate}
 use Rattle.lists.specs.Count.{countIf, countOf}
 use Rattle.dna.specs.Dna.{upper, sameLetter}
-use Rattle.decimal.specs.Decimal.{decimalIn, decimal}
+use Rattle.decimal.specs.Decimal.{decimalIn, decimal, listed}
 use Rattle.methylation.specs.declared.ConversionPattern.the-variants.{CToT}
 use Rattle.methylation_calls.specs.Calls.{isTracked}
-use Rattle.mm_ml.specs.Text.{letters, skipsFrom, listed, groupText}
+use Rattle.mm_ml.specs.Text.{letters, skipsFrom, groupText}
 use Rattle.mm_reading.specs.Reading.{numbers, skipsOf, calledFrom, readCalls}
 
 -- 20 Cs in a row.

@@ -16,13 +16,13 @@ use Rattle.lists.specs.Count.{countIf, countOf}
 use Rattle.lists.specs.Part.{onlyIf}
 use Rattle.lists.proofs.Count.{count-cons}
 use Rattle.refusals.proofs.Condition.{both-hold}
-use Rattle.decimal.specs.Decimal.{digit, decimal, valueOf}
+use Rattle.decimal.specs.Decimal.{digit, decimal, valueOf, listed}
 use Rattle.decimal.proofs.Decimal.{Each, only-digits, value-decimal}
 use Rattle.methylation.specs.declared.ConversionPattern.{ConversionPattern}
 use Rattle.methylation.specs.declared.ConversionPattern.the-variants.{CToT, GToA}
 use Rattle.methylation.specs.declared.MethylationMode.{MethylationMode}
 use Rattle.methylation_calls.specs.Calls.{isTracked, isCalled}
-use Rattle.mm_ml.specs.Text.{placesBelow, letters, skipsFrom, listed, groupText}
+use Rattle.mm_ml.specs.Text.{placesBelow, letters, skipsFrom, groupText}
 use Rattle.mm_ml.specs.Tags.{Annotated, calledAt, skips, allCalls}
 use Rattle.mm_reading.specs.Reading.{numbers, skipsOf, calledFrom, readCalls, ReadsBack}
 use Rattle.mm_ml.proofs.Walk.{past, past-append, letters-none, passing}

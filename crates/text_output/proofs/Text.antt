@@ -17,14 +17,10 @@ use borrow.Rule.Slice.PartMut.{putMid, midOf}
 use lib.ListN.{length, take, drop, getD, length-append, length-take, length-drop, length-map, List·getD-map}
 use lib.Seq.{drop-drop, drop-append-add, take-suc, take-take, take-all, take-append-seam, length-take-le}
 use Rattle.lists.specs.Output.{put}
-use Rattle.lists.proofs.Output.{length-put, put-fitting, copy-next}
-use Rattle.decimal.specs.Decimal.{decimal}
-use Rattle.decimal.proofs.Decimal.{few-digits}
-use Rattle.text_output.specs.Text.{followed, commaList, item, visible, printed, Written, Appended}
-
-take-put : (s out : List ℕ) → take (length s) (put s out) ≡ s
-unfolding put
-take-put s out = take-append-seam s (drop (length s) out)
+use Rattle.lists.proofs.Output.{length-put, put-fitting, copy-next, put-take, put-over, front-of}
+use Rattle.decimal.specs.Decimal.{decimal, listed}
+use Rattle.decimal.proofs.Decimal.{few-digits, listed-append}
+use Rattle.text_output.specs.Text.{commaList, item, visible, printed, Written, Appended}
 
 module _ {text out after : List ℕ} {r : ℕ} (w : Written text out after r) where
   pub within : r ≤ length out
@@ -37,7 +33,7 @@ module _ {text out after : List ℕ} {r : ℕ} (w : Written text out after r) wh
   whole room = (omega (arith, w .count), w .bytes ∙ put-fitting text out room)
 
   pub front : length text ≤ length out → take r after ≡ text
-  front room = rw (whole room .0, whole room .1) (take-put text out)
+  front room = front-of text out (whole room .1) (whole room .0)
 
 -- Of two texts, as much of the second is within the first n bytes as the first leaves room for.
 take-both : (n : ℕ) (s t : List ℕ) → take n (s ++ t) ≡ take n s ++ take (n - length (take n s)) t
@@ -66,17 +62,10 @@ join {s} {t} {out} {L} {Y} {a} {n} u v =
       bytes = copy-next first out room (u .bytes) here (omega (arith, u .count)) (take room t) (omega (arith, length-take room t)) second ∙ ap (λ (l : List ℕ). put l out) (ap (λ (k : ℕ). first ++ take k t) (sym left) ∙ sym (take-both (length out) s t));
     }
 
--- What stands at the front is as it was.
-put-front : (n : ℕ) (out : List ℕ) → put (take n out) out ≡ out
-unfolding put
-put-front zero out = refl
-put-front (suc n) [] = refl
-put-front (suc n) (x ∷ out) = ap (λ (l : List ℕ). x ∷ l) (put-front n out)
-
 pub held : (at : ℕ) (out : List ℕ) {from : ℕ} → from ≡ min (length out) at → Written (take at out) out out from
 held at out e = record {
   count = omega (arith, length-take at out);
-  bytes = sym (ap (λ (l : List ℕ). put l out) (take-all (length out) (take at out) (omega (arith, length-take at out))) ∙ put-front at out);
+  bytes = sym (ap (λ (l : List ℕ). put l out) (take-all (length out) (take at out) (omega (arith, length-take at out))) ∙ put-take at out);
 }
 
 pub placed :
@@ -103,14 +92,6 @@ take-cut zero s t = refl
 take-cut (suc n) [] t = refl
 take-cut (suc n) (x ∷ s) t = ap (λ (l : List ℕ). x ∷ l) (take-cut n s t)
 
--- What was written before is written again.
-put-again : (s t out : List ℕ) → length s ≤ length t → put t (put s out) ≡ put t out
-unfolding put
-put-again s t out h = ap (λ (l : List ℕ). t ++ l) (past (length t - length s) {n = length t} (omega arith))
-  where
-    past : (m : ℕ) {n : ℕ} → n ≡ length s + m → drop n (s ++ drop (length s) out) ≡ drop n out
-    past m e = rw e (drop-append-add s (drop (length s) out) m ∙ drop-drop m (length s) out)
-
 behind :
     {s out L Y : List ℕ} (t : List ℕ) {a r : ℕ}
     → Written s out L a
@@ -120,25 +101,24 @@ behind {s} {out} {L} {Y} t {a} u v =
     let first = take (length out) s in
     let size : length first ≡ min (length out) (length s) = length-take (length out) s in
     let same : length L ≡ length out = same-size u in
-    let again : take a L ≡ first = rw (u .bytes, u .count ∙ sym size) (take-put first out) in
+    let again : take a L ≡ first = front-of first out (u .bytes) (u .count ∙ sym size) in
     let long : length first ≤ length (take (length out) (first ++ t)) = omega (arith, length-take (length out) (first ++ t), length-append first t) in
     record {
       count = omega (arith, v .count, ap (λ (l : List ℕ). length (l ++ t)) again, length-append first t, length-append s t);
-      bytes = v .bytes ∙ rw (same, again, u .bytes) (put-again first (take (length out) (first ++ t)) out long) ∙ ap (λ (l : List ℕ). put l out) (take-cut (length out) s t);
+      bytes = v .bytes ∙ rw (same, again, u .bytes) (put-over (take (length out) (first ++ t)) first out long) ∙ ap (λ (l : List ℕ). put l out) (take-cut (length out) s t);
     }
 
 pub then : {s t out L Y : List ℕ} {at a r : ℕ} → Appended s at out L a → Appended t a L Y r → Appended (s ++ t) at out Y r
 then {s} {t} {out} {at = at} u v = record { written = rw (append-assoc (take at out) s t) at (behind t (u .written) (v .written)) }
 
-followed-snoc : (ns : List ℕ) (n : ℕ) → followed (ns ++ n ∷ []) ≡ followed ns ++ (44 ∷ decimal n)
-unfolding followed
-followed-snoc [] n = append-nil (44 ∷ decimal n)
-followed-snoc (m ∷ ns) n = rw (followed-snoc ns n) (sym (append-assoc (44 ∷ decimal m) (followed ns) (44 ∷ decimal n)))
+listed-snoc : (ns : List ℕ) (n : ℕ) → listed (ns ++ n ∷ []) ≡ listed ns ++ (44 ∷ decimal n)
+unfolding listed
+listed-snoc ns n = listed-append ns (n ∷ []) ∙ ap (λ (l : List ℕ). listed ns ++ l) (append-nil (44 ∷ decimal n))
 
 comma-snoc : (ns : List ℕ) (n : ℕ) → commaList (ns ++ n ∷ []) ≡ commaList ns ++ item (length ns) n
-unfolding commaList followed
+unfolding commaList listed
 comma-snoc [] n = append-nil (decimal n)
-comma-snoc (m ∷ ns) n = rw (followed-snoc ns n) (sym (append-assoc (decimal m) (followed ns) (44 ∷ decimal n)))
+comma-snoc (m ∷ ns) n = rw (listed-snoc ns n) (sym (append-assoc (decimal m) (listed ns) (44 ∷ decimal n)))
 
 pub comma-next : (ns : List ℕ) (i : ℕ) → i < length ns → commaList (take (i + 1) ns) ≡ commaList (take i ns) ++ item i (getD ns i 0)
 comma-next ns i h = rw (add-one, take-suc ns i 0 h, comma-snoc, length-take-le i ns (omega arith))

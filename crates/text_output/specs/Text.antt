@@ -8,22 +8,17 @@ use mathlib.Core.List.{List, [], _∷_, _++_, map}
 use lib.Dec.{leb}
 use lib.ListN.{length, take}
 use Rattle.lists.specs.Output.{put}
-use Rattle.decimal.specs.Decimal.{decimal}
+use Rattle.decimal.specs.Decimal.{decimal, listed}
 
 -- The characters' numbers, which are their bytes where all are of ASCII.
 abbrev pub ascii : String → List ℕ
 ascii none = []
 ascii (c then s) = code c ∷ ascii s
 
--- Numbers in decimal, a comma (44) before each.
-unfoldable pub followed : List ℕ → List ℕ
-followed [] = []
-followed (n ∷ ns) = (44 ∷ decimal n) ++ followed ns
-
 -- Numbers in decimal, a comma between each two.
 unfoldable pub commaList : List ℕ → List ℕ
 commaList [] = []
-commaList (n ∷ ns) = decimal n ++ followed ns
+commaList (n ∷ ns) = decimal n ++ listed ns
 
 -- What the number at a place of such a list adds to its text: the first stands bare.
 abbrev pub item : ℕ → ℕ → List ℕ
