@@ -10,7 +10,7 @@ use native.Mathlib.Omega.{arith}
 use native.Mathlib.Nat.{add-zero, pow-suc, div-lt-iff-lt-mul}
 use lib.ListN.{length, take, drop, getD}
 use Rattle.lists.specs.Table.{tabulate}
-use Rattle.byte_numbers.specs.Bytes.{numberOf, bytesOf, numbersOf, bytesOfAll}
+use Rattle.byte_numbers.specs.Bytes.{numberOf, bytesOf, numbersOf, bytesOfAll, word}
 use Rattle.byte_numbers.proofs.Groups.{taken, length-by-group, length-joined, by-group-joined}
 
 pub length-bytes : (width n : ℕ) → length (bytesOf width n) ≡ width
@@ -38,9 +38,9 @@ numbers-of-bytes width numbers positive small =
     by-group-joined width (λ i. bytesOf width (getD numbers i 0)) (λ i. length-bytes width (getD numbers i 0))
     numberOf (length numbers) 0 numbers positive refl (λ i h. number-of-bytes width (getD numbers i 0) (small i))
 
-pub two-at : (bytes : List ℕ) (at : ℕ) → at + 2 ≤ length bytes → numberOf (getD bytes at 0 ∷ getD bytes (at + 1) 0 ∷ []) ≡ numberOf (take 2 (drop at bytes))
-unfolding tabulate
-two-at bytes at h = rw (taken 0 2 at bytes h, add-zero)
+pub two-at : (bytes : List ℕ) (at : ℕ) → at + 2 ≤ length bytes → word (getD bytes at 0) (getD bytes (at + 1) 0) ≡ numberOf (take 2 (drop at bytes))
+unfolding tabulate numberOf
+two-at bytes at h = rw (taken 0 2 at bytes h, add-zero) (omega arith)
 
 pub four-at :
     (bytes : List ℕ) (at : ℕ)

@@ -11,6 +11,10 @@ unfoldable pub numberOf : List ℕ → ℕ
 numberOf [] = 0
 numberOf (byte ∷ bytes) = byte + 256 * numberOf bytes
 
+-- That of two bytes.
+abbrev pub word : ℕ → ℕ → ℕ
+word low high = low + 256 * high
+
 -- A number as so many bytes.
 unfoldable pub bytesOf : ℕ → ℕ → List ℕ
 bytesOf zero n = []

@@ -6,12 +6,12 @@ ghost use Prim.Native.Nat.{_+_, _/_, _≤_};
 ghost use lib.ListN.{length, take};
 ghost use lib.Seq.{sets};
 ghost use Rattle.lists.specs.Output.{put};
-ghost use Rattle.byte_numbers.specs.Bytes.{numberOf, bytesOf, words16, words32, bytes16, bytes32};
+ghost use Rattle.byte_numbers.specs.Bytes.{numberOf, bytesOf, words16, words32, bytes16, bytes32, word};
 use lists::smaller;
 
 // The number of two bytes.
 pub fn u16_of(b0: u8, b1: u8) -> u16
-    ensures { λ r. ⌜ r ≡ numberOf (b0 ∷ b1 ∷ []) ⌝ }
+    ensures { λ r. ⌜ r ≡ word b0 b1 ⌝ }
 {
     b0 as u16 + 256 * b1 as u16
 }

@@ -14,14 +14,15 @@ use borrow.Author.Tests.{ltb-false, le-ltb}
 use lib.Dec.{ltb}
 use lib.ListN.{length, take, drop, length-append, take-append-drop}
 use lib.Seq.{length-take-le, take-append-seam, drop-append-seam, getD-append-add}
-use Rattle.fields.specs.Encoding.{Field, field, encodedField, encoded, IsBytes, Short, Encodes, valueLength, Front, nothing, cut, whole, front, byFront, Fields, fields, fieldsWithin, fieldsOf, wholeFields, cutField}
+use Rattle.byte_numbers.specs.Bytes.{word}
+use Rattle.fields.specs.Encoding.{Field, field, encodedField, encoded, IsBytes, Short, Encodes, Front, nothing, cut, whole, front, byFront, Fields, fields, fieldsWithin, fieldsOf, wholeFields, cutField}
 
 -- Some bytes that begin with a field: its tag, its length in two bytes, its value, and the rest.
 pub record Begins (bytes : List ℕ) (f : Field) (rest : List ℕ) : Type 0 where
   pub low : ℕ
   pub high : ℕ
   pub bytes-are : bytes ≡ f .tag ∷ (low ∷ (high ∷ (f .value ++ rest)))
-  pub length-is : valueLength low high ≡ length (f .value)
+  pub length-is : word low high ≡ length (f .value)
 
 pub begins : (bytes : List ℕ) {f : Field} {rest : List ℕ} → front bytes ≡ whole f rest → Begins bytes f rest
 unfolding front
@@ -34,24 +35,24 @@ begins (a ∷ []) {f} {rest} e =
 begins (a ∷ (b ∷ [])) {f} {rest} e =
     let no : _≡_ {A = ℕ} 0 1 = cc in
     absurd (omega arith)
-begins (a ∷ (b ∷ (c ∷ bs))) {f} {rest} e = go (ltb (length bs) (valueLength b c)) refl e
+begins (a ∷ (b ∷ (c ∷ bs))) {f} {rest} e = go (ltb (length bs) (word b c)) refl e
   where
     go :
         (short : Bool)
-        → ltb (length bs) (valueLength b c) ≡ short
-        → cond short cut (whole (field a (take (valueLength b c) bs)) (drop (valueLength b c) bs)) ≡ whole f rest
+        → ltb (length bs) (word b c) ≡ short
+        → cond short cut (whole (field a (take (word b c) bs)) (drop (word b c) bs)) ≡ whole f rest
         → Begins (a ∷ (b ∷ (c ∷ bs))) f rest
     go true s e =
         let no : _≡_ {A = ℕ} 0 1 = cc in
         absurd (omega arith)
     go false s e =
-        let here : f ≡ field a (take (valueLength b c) bs) = cc in
-        let later : rest ≡ drop (valueLength b c) bs = cc in
+        let here : f ≡ field a (take (word b c) bs) = cc in
+        let later : rest ≡ drop (word b c) bs = cc in
         record {
           low = b;
           high = c;
           bytes-are = rw (here, later, take-append-drop);
-          length-is = rw here (sym (length-take-le (valueLength b c) bs (ltb-false _ _ s)));
+          length-is = rw here (sym (length-take-le (word b c) bs (ltb-false _ _ s)));
         }
 
 -- A field takes at least three bytes.
@@ -105,7 +106,7 @@ read-back (f ∷ fs) s =
     ∙ ap (λ (x : Fields). fields (f ∷ x .whole-ones) (x .cut-one)) (read-back fs (s .1))
 
 -- Two bytes are the length that they say.
-module _ (low high n : ℕ) (l : low < 256) (h : high < 256) (e : valueLength low high ≡ n) where
+module _ (low high n : ℕ) (l : low < 256) (h : high < 256) (e : word low high ≡ n) where
   low-is : n % 256 ≡ low
   low-is = omega arith
 
@@ -124,9 +125,9 @@ front-nothing (a ∷ []) e =
 front-nothing (a ∷ (b ∷ [])) e =
     let no : _≡_ {A = ℕ} 0 1 = cc in
     absurd (omega arith)
-front-nothing (a ∷ (b ∷ (c ∷ bs))) e = go (ltb (length bs) (valueLength b c)) e
+front-nothing (a ∷ (b ∷ (c ∷ bs))) e = go (ltb (length bs) (word b c)) e
   where
-    go : (short : Bool) → cond short cut (whole (field a (take (valueLength b c) bs)) (drop (valueLength b c) bs)) ≡ nothing → a ∷ (b ∷ (c ∷ bs)) ≡ []
+    go : (short : Bool) → cond short cut (whole (field a (take (word b c) bs)) (drop (word b c) bs)) ≡ nothing → a ∷ (b ∷ (c ∷ bs)) ≡ []
     go true e =
         let no : _≡_ {A = ℕ} 0 1 = cc in
         absurd (omega arith)

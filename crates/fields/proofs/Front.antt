@@ -13,7 +13,8 @@ use borrow.Author.Tests.{lt-ltb, le-ltb}
 use lib.Dec.{ltb}
 use lib.ListN.{length, take, drop, getD, length-drop, drop-of-length-le}
 use lib.Seq.{drop-cons, length-take-le}
-use Rattle.fields.specs.Encoding.{field, cut, whole, front, valueLength, nextField}
+use Rattle.byte_numbers.specs.Bytes.{word}
+use Rattle.fields.specs.Encoding.{field, cut, whole, front, nextField}
 use Rattle.fields.specs.declared.NextField.the-variants.{End, Cut, Whole}
 
 front-short : (xs : List ℕ) → 0 < length xs → length xs < 3 → front xs ≡ cut
@@ -28,7 +29,7 @@ front-short (a ∷ (b ∷ (c ∷ xs))) some few =
 module _ (bytes : List ℕ) (at : ℕ) where
   -- The length that the two bytes after the tag say.
   abbrev said : ℕ
-  said = valueLength (getD bytes (at + 1) 0) (getD bytes (at + 2) 0)
+  said = word (getD bytes (at + 1) 0) (getD bytes (at + 2) 0)
 
   opened : at + 3 ≤ length bytes → drop at bytes ≡ getD bytes at 0 ∷ (getD bytes (at + 1) 0 ∷ (getD bytes (at + 2) 0 ∷ drop (at + 3) bytes))
   opened h =

@@ -6,6 +6,7 @@ use mathlib.Core.List.{List, [], _∷_, _++_}
 use lib.Dec.{ltb}
 use lib.ListN.{length, take, drop, getD}
 use Rattle.lists.specs.Part.{part}
+use Rattle.byte_numbers.specs.Bytes.{word}
 use Rattle.fields.specs.declared.FieldAt.{FieldAt}
 use Rattle.fields.specs.declared.NextField.{NextField}
 use Rattle.fields.specs.declared.NextField.the-variants.{End, Cut, Whole}
@@ -40,10 +41,6 @@ pub record Encodes (bytes : List ℕ) (fs : List Field) : Type 0 where
   pub bytes-are : bytes ≡ encoded fs
   pub short : Short fs
 
--- The length of a value, from its two bytes.
-abbrev pub valueLength : ℕ → ℕ → ℕ
-valueLength low high = low + 256 * high
-
 -- What some bytes begin with: nothing where there are none, a field that is cut short, or a whole field and the bytes after it.
 pub data Front : Type 0 where
   nothing : Front
@@ -56,8 +53,8 @@ front [] = nothing
 front (tag ∷ []) = cut
 front (tag ∷ (low ∷ [])) = cut
 front (tag ∷ (low ∷ (high ∷ rest))) =
-    cond (ltb (length rest) (valueLength low high)) cut
-    (whole (field tag (take (valueLength low high) rest)) (drop (valueLength low high) rest))
+    cond (ltb (length rest) (word low high)) cut
+    (whole (field tag (take (word low high) rest)) (drop (word low high) rest))
 
 module _ {A : Type 0} where
   -- One of three values, by what some bytes begin with.

@@ -1,7 +1,8 @@
 // One field of the tag-length-value encoding of document 01's tray: a tag byte, the value's length in two bytes, low byte first,
-// and the value. What tags and values mean is for the crates above. Uses lists.
+// and the value. What tags and values mean is for the crates above. Uses lists and byte_numbers.
 ghost use mathlib.Core.Path.{_≡_};
-ghost use Rattle.fields.specs.Encoding.{valueLength, nextField};
+ghost use Rattle.fields.specs.Encoding.{nextField};
+use byte_numbers::u16_of;
 
 // A field of a byte buffer: its tag, and where its value is.
 pub struct FieldAt {
@@ -19,13 +20,6 @@ pub enum NextField {
     Whole(FieldAt),
 }
 
-// The length of a value, from its two bytes.
-fn value_length(low: u8, high: u8) -> usize
-    ensures { λ r. ⌜ r ≡ valueLength low high ⌝ }
-{
-    low as usize + 256 * high as usize
-}
-
 // The field that begins at a place. A place past the end has none.
 pub fn next_field(bytes: &[u8], at: usize) -> NextField
     ensures { λ r. ⌜ r ≡ nextField (now (bytes .entry)) at ⌝ }
@@ -37,7 +31,7 @@ pub fn next_field(bytes: &[u8], at: usize) -> NextField
     if n - at < 3 {
         return NextField::Cut;
     }
-    let length = value_length(bytes[at + 1], bytes[at + 2]);
+    let length = u16_of(bytes[at + 1], bytes[at + 2]) as usize;
     let offset = at + 3;
     if n - offset < length {
         return NextField::Cut;

@@ -5,6 +5,7 @@ use mathlib.Core.Bool.{cond, not, _&&_}
 use mathlib.Core.List.{List, [], _∷_}
 use lib.Dec.{eqb, leb}
 use lib.ListN.{length, getD}
+use Rattle.byte_numbers.specs.Bytes.{word}
 use Rattle.fields.specs.Encoding.{Field, wholeFields, nextField, fieldAt}
 use Rattle.fields.specs.declared.NextField.{NextField}
 use Rattle.fields.specs.declared.NextField.the-variants.{End as End-field, Cut, Whole}
@@ -14,10 +15,7 @@ use Rattle.read_run.specs.declared.NextRead.{NextRead}
 use Rattle.read_run.specs.declared.NextRead.the-variants.{End, Broken, Read}
 use Rattle.read_run.specs.declared.ReadCount.{ReadCount}
 
--- A number of two bytes, low byte first.
-abbrev pub word : ℕ → ℕ → ℕ
-word low high = low + 256 * high
-
+-- The first two bytes of a value, low byte first.
 unfoldable pub flagsOf : Field → ℕ
 flagsOf f = word (getD (f .value) 0 0) (getD (f .value) 1 0)
 

@@ -1,9 +1,10 @@
 // A run of reads, as an encoded molecule (the tray of document 01) and the entry points for C have it: whole fields 30 of the
 // tag-length-value encoding, each of flags, low byte first, and bases. A read's bases stay a part of the run.
-// Uses lists, refusals, fields, molecule_fields and source_reads.
+// Uses lists, refusals, byte_numbers, fields, molecule_fields and source_reads.
 ghost use mathlib.Core.Path.{_≡_};
 ghost use Rattle.fields.specs.Encoding.{fieldAt};
-ghost use Rattle.read_run.specs.Run.{word, flagsOf, nextRead, CountedAs};
+ghost use Rattle.read_run.specs.Run.{flagsOf, nextRead, CountedAs};
+use byte_numbers::u16_of;
 use fields::FieldAt;
 use fields::NextField;
 use fields::next_field;
@@ -27,18 +28,12 @@ pub struct ReadCount {
     pub count: usize,
 }
 
-fn word_of(low: u8, high: u8) -> u16
-    ensures { λ r. ⌜ r ≡ word low high ⌝ }
-{
-    low as u16 + 256 * high as u16
-}
-
 // The flags of a read that is a field of the run.
 fn read_flags(run: &[u8], f: FieldAt) -> u16
     ensures { λ r. ⌜ r ≡ flagsOf (fieldAt (now (run .entry)) f) ⌝ }
 {
     let value = part_u8(run, f.offset, f.length);
-    word_of(at_u8(value, 0, 0), at_u8(value, 1, 0))
+    u16_of(at_u8(value, 0, 0), at_u8(value, 1, 0))
 }
 
 // The read that begins at a place of a run. A place past the end has none.

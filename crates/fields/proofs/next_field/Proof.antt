@@ -13,13 +13,13 @@ returns-2 : tie.Need-returns-2
 returns-2 c = no-whole-header _ _ (omega arith) (c .if2 .taken)
 
 returns-3 : tie.Need-returns-3
-returns-3 c = no-whole-value _ _ (omega arith) (rw (c .before .value-length .ensures) at (c .if3 .taken))
+returns-3 c = no-whole-value _ _ (omega arith) (rw (c .before .u16-of .ensures) at (c .if3 .taken))
 
 returns-4 : tie.Need-returns-4
 returns-4 c =
     let called = c .before .before in
     let a = called .before .before .before .before .before .before .args in
-    rw (called .value-length .ensures) (a-field (now (a .bytes)) (a .at) (omega arith) (rw (called .value-length .ensures) at (c .before .if3 .left)))
+    rw (called .u16-of .ensures) (a-field (now (a .bytes)) (a .at) (omega arith) (rw (called .u16-of .ensures) at (c .before .if3 .left)))
 
 pub next-field-spec : {M : Type 1} → statement M
 next-field-spec =
@@ -33,6 +33,7 @@ next-field-spec =
     (λ c. search needs)
     (λ c. search needs)
     (λ c κs. tt)
+    (λ c. search needs)
     (λ c. search needs)
     (λ c. search needs)
     returns-3
