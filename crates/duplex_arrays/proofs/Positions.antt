@@ -17,10 +17,11 @@ use Rattle.lists.specs.Table.{tabulate}
 use Rattle.lists.proofs.Output.{put-equal, fill-next, put-none}
 use Rattle.lists.proofs.Table.{length-tabulate, getD-tabulate, tabulated, repeated}
 use Rattle.vanilla_caller.specs.Strand.{Arrays}
+use Rattle.duplex_molecule.specs.Molecule.{canCall}
 use Rattle.duplex_molecule.specs.declared.CtInput.{CtInput}
 use Rattle.duplex_molecule.specs.declared.CtInput.the-variants.{Neither, IsA, IsB}
 use Rattle.duplex_position.specs.declared.Position.{Position}
-use Rattle.duplex_arrays.specs.Positions.{canCall, positionOf, estimateOf, combinedBases, combinedQuals, estimates, uncounted}
+use Rattle.duplex_arrays.specs.Positions.{positionOf, estimateOf, combinedBases, combinedQuals, estimates, uncounted}
 
 pub zeroed : (n : ℕ) (out : List ℕ) → n ≤ length out → {Y : List ℕ} → Y ≡ replicate (length (midOf 0 (n - 0) out)) 0 → putMid 0 (n - 0) out Y ≡ put (tabulate n uncounted) out
 zeroed n out room y = fill-next [] out (n - 0) (put-none out) refl (omega arith) 0 y ∙ put-equal out (rw (sub-zero n) (repeated n 0))

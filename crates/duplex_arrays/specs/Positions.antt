@@ -8,16 +8,11 @@ use Rattle.lists.specs.Output.{put}
 use Rattle.lists.specs.Table.{tabulate}
 use Rattle.refusals.specs.Refusal.{tooShort}
 use Rattle.vanilla_caller.specs.Strand.{Arrays}
+use Rattle.duplex_molecule.specs.Molecule.{canCall}
 use Rattle.duplex_molecule.specs.declared.CtInput.{CtInput}
 use Rattle.duplex_molecule.specs.declared.CtInput.the-variants.{Neither, IsA, IsB}
 use Rattle.duplex_position.specs.declared.Position.{Position}
 use Rattle.duplex_call.specs.Annotated.{combined, estimated}
-
--- There may be calls: both strands are annotated, with different patterns.
-abbrev pub canCall : CtInput → Bool
-canCall Neither = false
-canCall IsA = true
-canCall IsB = true
 
 -- Base and quality at position i of strands A and B.
 abbrev pub positionOf : CtInput → Arrays → Arrays → ℕ → Position

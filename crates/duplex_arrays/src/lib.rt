@@ -8,24 +8,14 @@ ghost use lib.ListN.{length};
 ghost use Rattle.lists.specs.Output.{put};
 ghost use Rattle.vanilla_caller.specs.Strand.{arrays};
 ghost use Rattle.duplex_molecule.specs.declared.CtInput.the-variants.{Neither};
-ghost use Rattle.duplex_arrays.specs.Positions.{canCall, combinedBases, combinedQuals, estimates, arraysShort, PositionsAs, ErrorsAs};
+ghost use Rattle.duplex_arrays.specs.Positions.{combinedBases, combinedQuals, estimates, arraysShort, PositionsAs, ErrorsAs};
 use duplex_call::combine_annotated;
 use duplex_call::estimate_errors;
 use duplex_call::estimate_uncalled;
 use duplex_molecule::CtInput;
+use duplex_molecule::can_call;
 use duplex_position::combine_bases;
 use lists::fill_u16;
-
-// Whether there may be calls.
-fn can_call(ct: CtInput) -> bool
-    ensures { λ r. ⌜ r ≡ canCall ct ⌝ }
-{
-    match ct {
-        CtInput::Neither => false,
-        CtInput::IsA => true,
-        CtInput::IsB => true,
-    }
-}
 
 // Whether one of these lengths is below n. Marks count where there may be calls.
 fn positions_short(

@@ -9,7 +9,7 @@ use Rattle.methylation.specs.Methylation.{patternBases}
 use Rattle.methylation.specs.declared.Annotation.{Annotation}
 use Rattle.methylation.specs.declared.Annotation.the-variants.{Absent, Of}
 use Rattle.methylation.specs.declared.ConversionPattern.the-variants.{CToT, GToA}
-use Rattle.duplex_molecule.specs.Molecule.{moleculeCall, callAt, isCall, isCallOf}
+use Rattle.duplex_molecule.specs.Molecule.{moleculeCall, callAt, isCall, isCallOf, canCall}
 use Rattle.duplex_molecule.specs.declared.CtInput.{CtInput}
 use Rattle.duplex_molecule.specs.declared.CtInput.the-variants.{Neither, IsA, IsB}
 use Rattle.duplex_molecule.specs.declared.MoleculeCall.{MoleculeCall}
@@ -17,7 +17,7 @@ use Rattle.duplex_molecule.specs.declared.MoleculeCall.the-variants.{NoCall, Ca
 use Rattle.duplex_position.specs.Combination.{uncalled}
 use Rattle.duplex_position.specs.declared.Position.{Position}
 use Rattle.duplex_call.specs.Annotated.{byCall, combined, shown, expected}
-use Rattle.duplex_call.specs.Tests.{isB, someStrand, ofPattern, atCall}
+use Rattle.duplex_call.specs.Tests.{isB, ofPattern, atCall}
 
 -- The tests of a C-to-T call and of a G-to-A call, of the C-to-T strand's base and the other's.
 abbrev pub cTest : ℕ → ℕ → Bool
@@ -51,7 +51,7 @@ chosen true a b = refl
 chosen false a b = refl
 
 -- Whether there is a call of either pattern.
-pub c-to-t : (ct : CtInput) (a b : ℕ) → (someStrand ct && cTest (cond (isB ct) b a) (cond (isB ct) a b)) ≡ isCallOf (Of CToT) (callAt ct a b)
+pub c-to-t : (ct : CtInput) (a b : ℕ) → (canCall ct && cTest (cond (isB ct) b a) (cond (isB ct) a b)) ≡ isCallOf (Of CToT) (callAt ct a b)
 unfolding callAt moleculeCall isCallOf
 c-to-t ct a b = of ct
   where
@@ -60,12 +60,12 @@ c-to-t ct a b = of ct
     go x y false true = refl
     go x y false false = refl
 
-    of : (ct : CtInput) → (someStrand ct && cTest (cond (isB ct) b a) (cond (isB ct) a b)) ≡ isCallOf (Of CToT) (callAt ct a b)
+    of : (ct : CtInput) → (canCall ct && cTest (cond (isB ct) b a) (cond (isB ct) a b)) ≡ isCallOf (Of CToT) (callAt ct a b)
     of Neither = refl
     of IsA = go a b (cTest a b) (gTest a b)
     of IsB = go b a (cTest b a) (gTest b a)
 
-pub g-to-a : (ct : CtInput) (a b : ℕ) → (someStrand ct && gTest (cond (isB ct) b a) (cond (isB ct) a b)) ≡ isCallOf (Of GToA) (callAt ct a b)
+pub g-to-a : (ct : CtInput) (a b : ℕ) → (canCall ct && gTest (cond (isB ct) b a) (cond (isB ct) a b)) ≡ isCallOf (Of GToA) (callAt ct a b)
 unfolding callAt moleculeCall isCallOf
 g-to-a ct a b = of ct
   where
@@ -74,7 +74,7 @@ g-to-a ct a b = of ct
     go x y false true h = refl
     go x y false false h = refl
 
-    of : (ct : CtInput) → (someStrand ct && gTest (cond (isB ct) b a) (cond (isB ct) a b)) ≡ isCallOf (Of GToA) (callAt ct a b)
+    of : (ct : CtInput) → (canCall ct && gTest (cond (isB ct) b a) (cond (isB ct) a b)) ≡ isCallOf (Of GToA) (callAt ct a b)
     of Neither = refl
     of IsA = go a b (cTest a b) (gTest a b) (apart a b)
     of IsB = go b a (cTest b a) (gTest b a) (apart b a)

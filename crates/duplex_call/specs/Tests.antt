@@ -18,12 +18,6 @@ isB Neither = false
 isB IsA = false
 isB IsB = true
 
--- There is such a strand.
-abbrev pub someStrand : CtInput → Bool
-someStrand Neither = false
-someStrand IsA = true
-someStrand IsB = true
-
 -- An annotation is of this pattern.
 abbrev pub ofPattern : ConversionPattern → Annotation → Bool
 ofPattern pattern Absent = false

@@ -3,7 +3,7 @@
 ghost use mathlib.Core.Path.{_≡_};
 ghost use mathlib.Core.Bool.{cond};
 ghost use Rattle.duplex_call.specs.Annotated.{combined, estimatedUncalled, estimated, expected};
-ghost use Rattle.duplex_call.specs.Tests.{isB, someStrand, ofPattern, atCall};
+ghost use Rattle.duplex_call.specs.Tests.{isB, ofPattern, atCall};
 ghost use Rattle.duplex_molecule.specs.Molecule.{callAt, isCall, isCallOf};
 ghost use Rattle.methylation.specs.declared.Annotation.the-variants.{Of};
 ghost use Rattle.methylation.specs.declared.ConversionPattern.the-variants.{CToT, GToA};
@@ -12,6 +12,7 @@ use dna::to_ascii_uppercase;
 use duplex_errors::estimate_agreeing;
 use duplex_errors::estimate_disagreeing;
 use duplex_molecule::CtInput;
+use duplex_molecule::can_call;
 use duplex_position::Position;
 use duplex_position::combine_bases;
 use duplex_position::combine_called;
@@ -42,16 +43,6 @@ fn ct_is_b(ct: CtInput) -> bool
     match ct {
         CtInput::Neither => false,
         CtInput::IsA => false,
-        CtInput::IsB => true,
-    }
-}
-
-fn can_call(ct: CtInput) -> bool
-    ensures { λ r. ⌜ r ≡ someStrand ct ⌝ }
-{
-    match ct {
-        CtInput::Neither => false,
-        CtInput::IsA => true,
         CtInput::IsB => true,
     }
 }

@@ -33,6 +33,12 @@ ctInput (Of CToT) (Of GToA) = IsA
 ctInput (Of GToA) (Of CToT) = IsB
 ctInput (Of GToA) (Of GToA) = Neither
 
+-- There may be calls: both strands are annotated, with different patterns.
+abbrev pub canCall : CtInput → Bool
+canCall Neither = false
+canCall IsA = true
+canCall IsB = true
+
 -- The call of strand A's base and strand B's.
 unfoldable pub callAt : CtInput → ℕ → ℕ → MoleculeCall
 callAt Neither a b = NoCall

@@ -1,7 +1,7 @@
 // One position of a two-strand molecule, from duplex_caller.rs: the error test and the methylation call. Uses dna and
 // methylation.
 ghost use mathlib.Core.Path.{_≡_};
-ghost use Rattle.duplex_molecule.specs.Molecule.{isError, moleculeCall, ctInput};
+ghost use Rattle.duplex_molecule.specs.Molecule.{isError, moleculeCall, ctInput, canCall};
 use dna::NO_CALL_BASE;
 use dna::to_ascii_uppercase;
 use methylation::Annotation;
@@ -77,5 +77,16 @@ pub fn ct_input(a: Annotation, b: Annotation) -> CtInput
                 },
             },
         },
+    }
+}
+
+// Whether there may be calls.
+pub fn can_call(ct: CtInput) -> bool
+    ensures { λ r. ⌜ r ≡ canCall ct ⌝ }
+{
+    match ct {
+        CtInput::Neither => false,
+        CtInput::IsA => true,
+        CtInput::IsB => true,
     }
 }

@@ -17,9 +17,9 @@ use Rattle.methylation.specs.declared.Annotation.the-variants.{Absent, Of}
 use Rattle.methylation.specs.declared.ConversionPattern.the-variants.{CToT, GToA}
 use Rattle.vanilla_caller.specs.Strand.{four, evidence, strandRagged}
 use Rattle.vanilla_caller.specs.declared.Lengths.{Lengths}
-use Rattle.duplex_molecule.specs.Molecule.{ctInput}
+use Rattle.duplex_molecule.specs.Molecule.{ctInput, canCall}
 use Rattle.duplex_molecule.specs.declared.CtInput.{CtInput}
-use Rattle.duplex_arrays.specs.Positions.{canCall, arraysShort}
+use Rattle.duplex_arrays.specs.Positions.{arraysShort}
 use Rattle.duplex_arrays.proofs.Short.{long-enough}
 use Rattle.duplex_outputs.specs.Outputs.{recordTooShort}
 use Rattle.duplex_outputs.specs.declared.RecordLengths.{RecordLengths}
