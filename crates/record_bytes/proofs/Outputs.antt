@@ -1,5 +1,4 @@
 -- Laws of a record as bytes.
---     cut, whole                    the front of a slice
 --     same-evidence                 a strand's evidence, by the fronts that the code has
 --     bytes-refused                 what a refused call leaves
 --     turned-down, passed-on        what is promised of a call, by its test and what was written
@@ -26,12 +25,6 @@ use Rattle.duplex_kind.specs.declared.DuplexConsensus.{DuplexConsensus}
 use Rattle.duplex_kind.specs.declared.DuplexConsensus.the-variants.{Refused}
 use Rattle.record_bytes.specs.Outputs.{RecordBytes, asBytes, asArrays, LeavesBytes, shortFor, outputsRefused, evidencePlaces, fronts, WrittenAs, positionsIn}
 use Rattle.record_bytes.specs.declared.Written.{Written}
-
-pub cut : {A : Type 0} (n : ℕ) (xs : List A) → take (n - 0) xs ≡ take n xs
-cut n xs = rw sub-zero
-
-pub whole : {A : Type 0} (n : ℕ) (xs : List A) → length xs ≤ n → xs ≡ take n xs
-whole n xs h = sym (take-all n xs h)
 
 -- Evidence of m, u and v, by the fronts m', u' and v' that the code has of them.
 pub same-evidence :

@@ -15,6 +15,9 @@ use duplex_outputs::record_too_short;
 use evidence_bytes::POSITION_BYTES;
 use evidence_bytes::write_evidence;
 use lists::copy_u8;
+use lists::front_u8;
+use lists::front_u16;
+use lists::front_u32;
 use refusals::OUTPUT_TOO_SHORT;
 
 // How many positions are written, and whether evidence of the first strand and of the second.
@@ -79,34 +82,6 @@ fn positions_in(
         unconvertedB: b,
         convertedB: b,
     }
-}
-
-// The first n elements, or all where there are fewer.
-fn front_u8(xs: &[u8], n: usize) -> &[u8]
-    ensures { λ r. ⌜ now r ≡ take n (now (xs .entry)) ⌝ }
-{
-    if n < xs.len() {
-        return &xs[0..n];
-    }
-    xs
-}
-
-fn front_u16(xs: &[u16], n: usize) -> &[u16]
-    ensures { λ r. ⌜ now r ≡ take n (now (xs .entry)) ⌝ }
-{
-    if n < xs.len() {
-        return &xs[0..n];
-    }
-    xs
-}
-
-fn front_u32(xs: &[u32], n: usize) -> &[u32]
-    ensures { λ r. ⌜ now r ≡ take n (now (xs .entry)) ⌝ }
-{
-    if n < xs.len() {
-        return &xs[0..n];
-    }
-    xs
 }
 
 // The first n positions of a record's own arrays, as many as there is room for.

@@ -10,7 +10,8 @@ use duplex_gate::duplex_consensus_has_minimum_reads;
 use duplex_kind::DuplexConsensus;
 use duplex_reads::Gate;
 use line_text::write_line;
-use lists::smaller;
+use lists::front_u8;
+use lists::front_u16;
 use metrics_bits::MetricsBits;
 use metrics_bits::MetricsWords;
 use metrics_bits::metrics_bits;
@@ -19,22 +20,6 @@ use metrics_bits::metrics_bits;
 pub struct Line {
     pub length: usize,
     pub bytes: [u8; 12288],
-}
-
-// The first n of some bytes, or all where there are fewer.
-fn front_u8(n: usize, xs: &[u8]) -> &[u8]
-    ensures { λ r. ⌜ now r ≡ take n (now (xs .entry)) ⌝ }
-{
-    let end = smaller(n, xs.len());
-    &xs[0..end]
-}
-
-// The same of 16-bit numbers.
-fn front_u16(n: usize, xs: &[u16]) -> &[u16]
-    ensures { λ r. ⌜ now r ≡ take n (now (xs .entry)) ⌝ }
-{
-    let end = smaller(n, xs.len());
-    &xs[0..end]
 }
 
 fn text_line(
@@ -128,13 +113,13 @@ fn own_line(
 ) -> Line
     ensures { λ r. ⌜ HoldsOf (recordText made n (input (now («first_depths» .entry)) (now («first_errors» .entry)) second (now («other_depths» .entry)) (now («other_errors» .entry)) (now (bases .entry)) (now (errors .entry))) (now (quals .entry)) (now («min_reads» .entry))) (now (bases .entry)) (now (quals .entry)) (now (errors .entry)) r ⌝ }
 {
-    let first_depths = front_u16(n, first_depths);
-    let first_errors = front_u16(n, first_errors);
-    let other_depths = front_u16(n, other_depths);
-    let other_errors = front_u16(n, other_errors);
-    let bases = front_u8(n, bases);
-    let quals = front_u8(n, quals);
-    let errors = front_u16(n, errors);
+    let first_depths = front_u16(first_depths, n);
+    let first_errors = front_u16(first_errors, n);
+    let other_depths = front_u16(other_depths, n);
+    let other_errors = front_u16(other_errors, n);
+    let bases = front_u8(bases, n);
+    let quals = front_u8(quals, n);
+    let errors = front_u16(errors, n);
     let gate = duplex_consensus_has_minimum_reads(n, first_depths, other_depths, min_reads);
     let metrics = metrics_bits(
         first_depths,
