@@ -65,8 +65,8 @@ firstOffence bytes reads = foldl (λ found read. cond (eqb found 0) (offence byt
 unfoldable pub miLeaves : ℕ → List ℕ → Bool
 miLeaves n read = hasMi read && leaves (offset read) (size read) n
 
-unfoldable pub anyLeaves : ℕ → List (List ℕ) → Bool
-anyLeaves n reads = foldl (λ met read. met || miLeaves n read) false reads
+unfoldable pub anyMiLeaves : ℕ → List (List ℕ) → Bool
+anyMiLeaves n reads = foldl (λ met read. met || miLeaves n read) false reads
 
 -- n reads, whether an MI leaves the buffer, the places of the two lists, and the first offence. Each list must hold as many
 -- places as there are reads.
@@ -81,7 +81,7 @@ partitionFaults n leaving a b found =
 
 -- The reads, the bytes, and the lists of A and of B.
 unfoldable pub partitionRefused : List (List ℕ) → List ℕ → List ℕ → List ℕ → ℕ
-partitionRefused reads bytes a b = refusal (partitionFaults (length reads) (anyLeaves (length bytes) reads) (length a) (length b) (firstOffence bytes reads))
+partitionRefused reads bytes a b = refusal (partitionFaults (length reads) (anyMiLeaves (length bytes) reads) (length a) (length b) (firstOffence bytes reads))
 
 -- The read numbers of strand A, and of B, each in arrival order.
 unfoldable pub onA : List ℕ → List (List ℕ) → List ℕ

@@ -4,7 +4,7 @@ ghost use Prim.Native.Nat.{_≤_};
 ghost use lib.ListN.{length};
 ghost use Rattle.lists.specs.Output.{put};
 ghost use Rattle.refusals.specs.Refusal.{refusal};
-ghost use Rattle.duplex_partition.specs.Partition.{strandOf, readStrand, offence, firstOffence, miLeaves, anyLeaves, partitionFaults, onA, onB, baseMi, PartitionedAs};
+ghost use Rattle.duplex_partition.specs.Partition.{strandOf, readStrand, offence, firstOffence, miLeaves, anyMiLeaves, partitionFaults, onA, onB, baseMi, PartitionedAs};
 use lists::part_leaves;
 use lists::part_u8;
 use refusals::MAX_READS;
@@ -101,7 +101,7 @@ fn read_leaves(size: usize, read: MiPart) -> bool
 }
 
 fn any_leaves(size: usize, reads: &[MiPart]) -> bool
-    ensures { λ r. ⌜ r ≡ anyLeaves size (now (reads .entry)) ⌝ }
+    ensures { λ r. ⌜ r ≡ anyMiLeaves size (now (reads .entry)) ⌝ }
 {
     let mut met = false;
     let mut i = 0;

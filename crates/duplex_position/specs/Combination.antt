@@ -3,16 +3,16 @@ use Prim.Native.Nat.{ℕ, _+_, _-_}
 use mathlib.Core.Bool.{Bool, cond, _||_}
 use lib.Dec.{eqb, ltb}
 use Rattle.dna.specs.Dna.{letterN}
-use Rattle.phred.specs.Phred.{minPhred, capped}
+use Rattle.phred.specs.Phred.{minPhred, cappedQuality}
 use Rattle.duplex_position.specs.declared.Position.{Position}
 
 -- Equal bases sum, held to 2..93.
 unfoldable pub agreed : ℕ → ℕ → ℕ
-agreed a b = capped (a + b)
+agreed a b = cappedQuality (a + b)
 
 -- Otherwise the difference is left, 2 for none.
 unfoldable pub disagreed : ℕ → ℕ → ℕ
-disagreed a b = capped ((a - b) + (b - a))
+disagreed a b = cappedQuality ((a - b) + (b - a))
 
 -- N with quality 2 if either base is N or the quality is 2.
 unfoldable pub masked : ℕ → ℕ → ℕ → ℕ → Position
@@ -27,4 +27,4 @@ uncalled a qa b qb = cond (eqb a b) (masked a b a (agreed qa qb)) (masked a b (c
 
 -- At a call: the confirmed base, with the sum, or with the confirming strand's quality alone.
 unfoldable pub called : ℕ → ℕ → ℕ → ℕ → ℕ → Bool → ℕ → Position
-called a qa b qb confirmed alone confirming = masked a b confirmed (cond alone (capped confirming) (agreed qa qb))
+called a qa b qb confirmed alone confirming = masked a b confirmed (cond alone (cappedQuality confirming) (agreed qa qb))

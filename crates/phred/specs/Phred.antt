@@ -8,5 +8,5 @@ abbrev pub maxPhred : ℕ
 maxPhred = 93
 
 -- Held to 2..93.
-unfoldable pub capped : ℕ → ℕ
-capped score = max minPhred (min score maxPhred)
+unfoldable pub cappedQuality : ℕ → ℕ
+cappedQuality score = max minPhred (min score maxPhred)

@@ -2,7 +2,7 @@
 use mathlib.Core.Path.{refl}
 use lib.Ieee.{ofInt, round, div, toBits}
 use Rattle.dna.specs.Dna.{upper, sameLetter}
-use Rattle.phred.specs.Phred.{capped}
+use Rattle.phred.specs.Phred.{cappedQuality}
 use Rattle.rates.specs.Rate.{rateOf}
 use Rattle.caller.specs.Short.{short, shortOf}
 use Rattle.duplex_errors.specs.Errors.{agreeing, disagreeing}
@@ -13,7 +13,7 @@ use Rattle.duplex_position.specs.Combination.{agreed, disagreed, masked, uncall
 use Rattle.positions.specs.Positions.{Positions}
 
 pub positions : Positions
-unfolding rateOf ofInt round div toBits capped agreed disagreed masked uncalled short shortOf agreeing disagreeing upper sameLetter moleculeCall callAt called combined mlOf
+unfolding rateOf ofInt round div toBits cappedQuality agreed disagreed masked uncalled short shortOf agreeing disagreeing upper sameLetter moleculeCall callAt called combined mlOf
 positions = record {
   p1 = refl;
   p2 = refl;

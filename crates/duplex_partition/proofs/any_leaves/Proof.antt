@@ -6,28 +6,28 @@ use Prim.Native.Nat.{_≤_, _-_}
 use native.Mathlib.Omega.{arith}
 use lib.ListN.{length, take}
 use Rattle.lists.proofs.Fold.{fold-next, fold-all}
-use Rattle.duplex_partition.specs.Partition.{anyLeaves}
+use Rattle.duplex_partition.specs.Partition.{anyMiLeaves}
 use Rattle.duplex_partition.proofs.any_leaves.Statement.{statement}
 use Rattle.duplex_partition.proofs.any_leaves.Tie as tie
 
 abbrev Inv-loop : tie.InvT-loop
-Inv-loop size reads met₀ i₀ met i = (i ≤ length reads) × (met ≡ anyLeaves size (take i reads))
+Inv-loop size reads met₀ i₀ met i = (i ≤ length reads) × (met ≡ anyMiLeaves size (take i reads))
 
 abbrev μ-loop : tie.MeasureT-loop
 μ-loop size reads met₀ i₀ met i = length reads - i
 
 loop-holds : tie.Need-loop-holds Inv-loop μ-loop
-unfolding anyLeaves
+unfolding anyMiLeaves
 loop-holds c = (omega arith, refl)
 
 loop-again : tie.Need-loop-again Inv-loop μ-loop
-unfolding anyLeaves
+unfolding anyMiLeaves
 loop-again c =
     let at-loop = c .before .before .before in
     (omega arith, rw (c .read-leaves .ensures, at-loop .loop .inv .1) (fold-next _ _ _ _ [] (c .before .before .loop-test .taken)))
 
 returns : tie.Need-returns Inv-loop μ-loop
-unfolding anyLeaves
+unfolding anyMiLeaves
 returns c = c .before .loop .inv .1 ∙ fold-all _ _ _ _ (c .loop-test .left)
 
 pub any-leaves-spec : {M : Type 1} → statement M

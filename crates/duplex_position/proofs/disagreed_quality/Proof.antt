@@ -3,22 +3,22 @@ use mathlib.Core.Path.{_≡_, ap, _∙_}
 use Prim.Native.Nat.{ℕ, _+_, _-_, _≤_, _<_}
 use native.Mathlib.Omega.{arith}
 use borrow.Author.Needs.{needs}
-use Rattle.phred.specs.Phred.{capped}
+use Rattle.phred.specs.Phred.{cappedQuality}
 use Rattle.duplex_position.specs.Combination.{disagreed}
 use Rattle.duplex_position.proofs.disagreed_quality.Statement.{statement}
 use Rattle.duplex_position.proofs.disagreed_quality.Tie as tie
 
-rising : (a b : ℕ) → a < b → capped (b - a) ≡ disagreed a b
+rising : (a b : ℕ) → a < b → cappedQuality (b - a) ≡ disagreed a b
 unfolding disagreed
 rising a b h =
     let same : b - a ≡ (a - b) + (b - a) = omega arith in
-    ap capped same
+    ap cappedQuality same
 
-falling : (a b : ℕ) → b ≤ a → capped (a - b) ≡ disagreed a b
+falling : (a b : ℕ) → b ≤ a → cappedQuality (a - b) ≡ disagreed a b
 unfolding disagreed
 falling a b h =
     let same : a - b ≡ (a - b) + (b - a) = omega arith in
-    ap capped same
+    ap cappedQuality same
 
 returns : tie.Need-returns
 returns c = c .cap-quality .ensures ∙ rising _ _ (c .before .if1 .taken)
