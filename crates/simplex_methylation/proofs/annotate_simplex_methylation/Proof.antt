@@ -50,6 +50,7 @@ use denote.Triple.Spec.{Meets, tripleOf}
 use denote.Triple.Table.{entered, cited}
 use denote.Triple.Walked.{says, Stays, stay-none-slice, stay-slice, stay-none, walkOf, goes-none-slice, goes-slice, goes-none, Walks, ends-at, walked, walk-meets}
 use denote.Exit.{yes}
+use Rattle.source_reads.proofs.Relend.{Kept, passed, lends-anew, comes-home}
 use Rattle.source_reads.proofs.Walk.{envOf, after, span, laid, leaves, borrows, dups, takes-elem, puts-elem, calls-told}
 use types.Kit as Kit
 use types.Kit.{Seq, lands, feqL}
@@ -65,7 +66,6 @@ use Rattle.methylation.specs.Methylation.{patternBases}
 use Rattle.source_reads.specs.Reads.{none, readLeaves, anyLeaves}
 use Rattle.simplex_methylation.specs.Simplex.{Setting, setting, Outputs, outputs, Below as Small, BegunAs, AddedAs, AnnotatedAs}
 use Rattle.simplex_methylation.specs.declared.SimplexMethylation.the-variants.{Refused, Written}
-use Rattle.simplex_methylation.proofs.Relend.{Kept, passed, lends-on, comes-home}
 use Rattle.simplex_methylation.proofs.Turns.{Known, Turn, first-turn, next-turn, turn-asks, at-most, told}
 use Rattle.source_reads.specs.declared.SourceRead.{SourceRead}
 use Rattle.source_reads.proofs.SourceRead as SourceRead-row
@@ -247,7 +247,7 @@ module _ {M : Type 1} (𝓤 : URA M) (H : Heap 𝓤) (A : Atoms 𝓤) (W : Given
         → Seq K W (‵ (flft κ2 q2) ∷ ‵ (fobs (s7 .name) (codedHoleys u8 .code (heres u8 ms))) ∷ ‵ (fbor κ4 (Held u8 (length ms) (s7 .ptr .0) (s7 .ptr .1) (s7 .name))) ∷ ‵ (flft κ4 q4) ∷ ‵ (fobs (s8 .name) (codedHoleys u32 .code (heres u32 us))) ∷ ‵ (fbor κ5 (Held u32 (length us) (s8 .ptr .0) (s8 .ptr .1) (s8 .name))) ∷ ‵ (flft κ5 q5) ∷ ‵ (fobs (s9 .name) (codedHoleys u32 .code (heres u32 cs))) ∷ ‵ (fbor κ6 (Held u32 (length cs) (s9 .ptr .0) (s9 .ptr .1) (s9 .name))) ∷ ‵ (flft κ6 q6) ∷ Γ) (lands (𝓣 .C) (𝓣 .Λ) E d w rest qp))
         → Seq K W (‵ (flft κ2 q2) ∷ ‵ Own3 ∷ ‵ (fobs (s7 .name) (codedHoleys u8 .code (heres u8 (s7 .now)))) ∷ ‵ (fbor κ4 (Held u8 (length (s7 .now)) (s7 .ptr .0) (s7 .ptr .1) (s7 .name))) ∷ ‵ (flft κ4 q4) ∷ ‵ (fobs (s8 .name) (codedHoleys u32 .code (heres u32 (s8 .now)))) ∷ ‵ (fbor κ5 (Held u32 (length (s8 .now)) (s8 .ptr .0) (s8 .ptr .1) (s8 .name))) ∷ ‵ (flft κ5 q5) ∷ ‵ (fobs (s9 .name) (codedHoleys u32 .code (heres u32 (s9 .now)))) ∷ ‵ (fbor κ6 (Held u32 (length (s9 .now)) (s9 .ptr .0) (s9 .ptr .1) (s9 .name))) ∷ ‵ (flft κ6 q6) ∷ Γ) (runs (𝓣 .C) (𝓣 .Λ) E (seq (call #simplex-methylation·begin-annotation xs d) rest) qp)
     begin-called t 𝓣 known os k =
-        move t (2 ∷ 3 ∷ 4 ∷ []) $ lends-on u8 κ4 q4 (s7 .name) (s7 .ptr .0) (s7 .ptr .1) (s7 .now) t tt (named 1) g7 (λ ν7 δ7. move t (5 ∷ 6 ∷ 7 ∷ []) $ lends-on u32 κ5 q5 (s8 .name) (s8 .ptr .0) (s8 .ptr .1) (s8 .now) t tt (named 2) g8 (λ ν8 δ8. move t (8 ∷ 9 ∷ 10 ∷ []) $ lends-on u32 κ6 q6 (s9 .name) (s9 .ptr .0) (s9 .ptr .1) (s9 .now) t tt (named 3) g9 (λ ν9 δ9.
+        move t (2 ∷ 3 ∷ 4 ∷ []) $ lends-anew u8 κ4 q4 (s7 .name) (s7 .ptr .0) (s7 .ptr .1) (s7 .now) t tt (named 1) g7 (λ ν7 δ7. move t (5 ∷ 6 ∷ 7 ∷ []) $ lends-anew u32 κ5 q5 (s8 .name) (s8 .ptr .0) (s8 .ptr .1) (s8 .now) t tt (named 2) g8 (λ ν8 δ8. move t (8 ∷ 9 ∷ 10 ∷ []) $ lends-anew u32 κ6 q6 (s9 .name) (s9 .ptr .0) (s9 .ptr .1) (s9 .now) t tt (named 3) g9 (λ ν9 δ9.
         -- of each of the three the slice, its new token and what is kept; reference's token; what reference owns
         nothing t $ move t (2 ∷ 0 ∷ []) $ join t $ move t (4 ∷ 0 ∷ []) $ join t $ move t (6 ∷ 0 ∷ []) $ join t $ move t (7 ∷ 0 ∷ []) $ join t $ move t (0 ∷ 7 ∷ 5 ∷ 3 ∷ 1 ∷ []) $
         group t 5 $ use1 W (raw (BeginannotationC 𝓤 H A mem run .pre (begin-to ν7 ν8 ν9 δ7 δ8 δ9))) (begin-annotation-asked 𝓤 H A W mem run κ2 (ν7 ∷ []) (ν8 ∷ []) (ν9 ∷ []) q2 fullShare fullShare fullShare x0 m leaving s3 x4 (passed u8 κ4 q4 (s7 .name) (s7 .ptr .0) (s7 .ptr .1) (s7 .now) δ7) (passed u32 κ5 q5 (s8 .name) (s8 .ptr .0) (s8 .ptr .1) (s8 .now) δ8) (passed u32 κ6 q6 (s9 .name) (s9 .ptr .0) (s9 .ptr .1) (s9 .now) δ9) g0 gm g4) $
@@ -280,7 +280,7 @@ module _ {M : Type 1} (𝓤 : URA M) (H : Heap 𝓤) (A : Atoms 𝓤) (W : Given
         → Seq K W (‵ (flft κ1 q1) ∷ ‵ (flft κ2 q2) ∷ ‵ (flft κ3 q3) ∷ ‵ (fobs (s8 .name) (codedHoleys u32 .code (heres u32 us′))) ∷ ‵ (fbor κ5 (Held u32 (length us′) (s8 .ptr .0) (s8 .ptr .1) (s8 .name))) ∷ ‵ (flft κ5 q5) ∷ ‵ (fobs (s9 .name) (codedHoleys u32 .code (heres u32 cs′))) ∷ ‵ (fbor κ6 (Held u32 (length cs′) (s9 .ptr .0) (s9 .ptr .1) (s9 .name))) ∷ ‵ (flft κ6 q6) ∷ Γ) (lands (𝓣 .C) (𝓣 .Λ) E d w rest qp))
         → Seq K W (‵ (flft κ1 q1) ∷ ‵ Own2 ∷ ‵ (flft κ2 q2) ∷ ‵ Own3 ∷ ‵ (flft κ3 q3) ∷ ‵ Own5 ∷ ‵ (fobs (s8 .name) (codedHoleys u32 .code (heres u32 us))) ∷ ‵ (fbor κ5 (Held u32 (length us) (s8 .ptr .0) (s8 .ptr .1) (s8 .name))) ∷ ‵ (flft κ5 q5) ∷ ‵ (fobs (s9 .name) (codedHoleys u32 .code (heres u32 cs))) ∷ ‵ (fbor κ6 (Held u32 (length cs) (s9 .ptr .0) (s9 .ptr .1) (s9 .name))) ∷ ‵ (flft κ6 q6) ∷ Γ) (runs (𝓣 .C) (𝓣 .Λ) E (seq (call #simplex-methylation·add-read xs d) rest) qp)
     read-added t 𝓣 known os k =
-        move t (6 ∷ 7 ∷ 8 ∷ []) $ lends-on u32 κ5 q5 (s8 .name) (s8 .ptr .0) (s8 .ptr .1) us t tt (named 3) room8 (λ ν8 δ8. move t (9 ∷ 10 ∷ 11 ∷ []) $ lends-on u32 κ6 q6 (s9 .name) (s9 .ptr .0) (s9 .ptr .1) cs t tt (named 4) room9 (λ ν9 δ9.
+        move t (6 ∷ 7 ∷ 8 ∷ []) $ lends-anew u32 κ5 q5 (s8 .name) (s8 .ptr .0) (s8 .ptr .1) us t tt (named 3) room8 (λ ν8 δ8. move t (9 ∷ 10 ∷ 11 ∷ []) $ lends-anew u32 κ6 q6 (s9 .name) (s9 .ptr .0) (s9 .ptr .1) cs t tt (named 4) room9 (λ ν9 δ9.
         -- of each of the two the slice, its new token and what is kept; of bytes, reference and aligned the token, and what it owns
         nothing t $ move t (2 ∷ 0 ∷ []) $ join t $ move t (4 ∷ 0 ∷ []) $ join t $ move t (9 ∷ 0 ∷ []) $ join t $ move t (7 ∷ 0 ∷ []) $ join t $ move t (5 ∷ 0 ∷ []) $ join t $ move t (0 ∷ 5 ∷ 6 ∷ 7 ∷ 3 ∷ 1 ∷ []) $
         group t 6 $ use1 W (raw (AddreadC 𝓤 H A mem run .pre (read-to ν8 ν9 δ8 δ9))) (add-read-asked 𝓤 H A W mem run κ1 κ2 κ3 (ν8 ∷ []) (ν9 ∷ []) q1 q2 q3 fullShare fullShare y s2 s3 x4 s5 x6 x0 (passed u32 κ5 q5 (s8 .name) (s8 .ptr .0) (s8 .ptr .1) us δ8) (passed u32 κ6 q6 (s9 .name) (s9 .ptr .0) (s9 .ptr .1) cs δ9) gy g4 g0 asks) $
