@@ -1,17 +1,18 @@
 -- Laws of numbers as bytes, for any width.
---     length-bytes, length-numbers, length-all-bytes     how many there are
---     number-of-bytes, numbers-of-bytes     a number that its bytes can say is read back, and so are some numbers
+--     length-bytes, length-numbers          how many there are
+--     number-of-bytes                       a number that its bytes can say is read back
+--     numbers-of-bytes                      a claim: so are some numbers
 --     two-at, four-at                       a number of two and of four bytes, by its bytes
 -- Assumes nothing.
 use mathlib.Core.Path.{_≡_, refl, ap}
 use mathlib.Core.List.{List, [], _∷_}
-use Prim.Native.Nat.{ℕ, zero, suc, _+_, _*_, _/_, _^_, _≤_, _<_}
+use Prim.Native.Nat.{ℕ, zero, suc, _+_, _/_, _^_, _≤_, _<_}
 use native.Mathlib.Omega.{arith}
 use native.Mathlib.Nat.{add-zero, pow-suc, div-lt-iff-lt-mul}
 use lib.ListN.{length, take, drop, getD}
 use Rattle.lists.specs.Table.{tabulate}
 use Rattle.byte_numbers.specs.Bytes.{numberOf, bytesOf, numbersOf, bytesOfAll, word}
-use Rattle.byte_numbers.proofs.Groups.{taken, length-by-group, length-joined, by-group-joined}
+use Rattle.byte_numbers.proofs.Groups.{taken, length-by-group, by-group-joined}
 
 pub length-bytes : (width n : ℕ) → length (bytesOf width n) ≡ width
 unfolding bytesOf
@@ -20,10 +21,6 @@ length-bytes (suc width) n = ap suc (length-bytes width (n / 256))
 
 pub length-numbers : (width : ℕ) (bytes : List ℕ) → length (numbersOf width bytes) ≡ length bytes / width
 length-numbers width bytes = length-by-group width numberOf bytes
-
-pub length-all-bytes : (width : ℕ) (numbers : List ℕ) → length (bytesOfAll width numbers) ≡ width * length numbers
-unfolding bytesOfAll
-length-all-bytes width numbers = length-joined width (λ i. bytesOf width (getD numbers i 0)) (λ i. length-bytes width (getD numbers i 0)) (length numbers)
 
 pub number-of-bytes : (width n : ℕ) → n < 256 ^ width → numberOf (bytesOf width n) ≡ n
 unfolding numberOf bytesOf

@@ -38,7 +38,7 @@ use Rattle.strand_bytes.specs.Strand.{StrandBytes, strandOf}
 use Rattle.bytes_refusal.specs.Rows.{broken}
 use Rattle.duplex_bytes.specs.Bytes.{bytesFaults, bytesRefused, inputsRefused, bytesRecord, BytesAs}
 use Rattle.duplex_bytes.proofs.Ample.{zeros-ample, inputs-alone}
-use Rattle.record_bytes.specs.Outputs.{RecordBytes, asBytes, asArrays, LeavesBytes, writtenOf, shortFor, outputsRefused, evidencePlaces, fronts, WrittenAs}
+use Rattle.record_bytes.specs.Outputs.{RecordBytes, asArrays, writtenOf, shortFor, outputsRefused, evidencePlaces, fronts, WrittenAs}
 use Rattle.record_bytes.specs.declared.Written.{Written}
 use Rattle.consensus_bytes.specs.Consensus.{ConsensusBytesAs}
 

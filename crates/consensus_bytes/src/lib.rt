@@ -1,6 +1,5 @@
 // The duplex record of strands given as bytes, written as bytes: what the entry point for C does. The record is duplex_bytes's, the
 // outputs are record_bytes's. Uses methylation, duplex_kind, duplex_bytes and record_bytes.
-ghost use mathlib.Core.Path.{_≡_};
 ghost use Rattle.strand_bytes.specs.Strand.{strandBytes};
 ghost use Rattle.duplex_bytes.specs.Bytes.{seen};
 ghost use Rattle.record_bytes.specs.Outputs.{recordBytes};

@@ -1,7 +1,7 @@
 -- Laws of decimal text.
 --     decimal-one, decimal-more     the text of a number below 10, and of one from 10 on by that of its tenth
 --     by-tenths                     what holds below 10, and from 10 on where it holds of the tenth, holds of every number
---     some-digits, digits-within    a number has one digit at least, and at most one more than the number itself
+--     digits-within                 a number has at most one digit more than the number itself
 --     few-digits                    a number below 10 to the power k has at most k digits
 --     only-digits                   each character of the text is a digit's
 --     value-decimal                 the text read back is the number
@@ -16,10 +16,10 @@ use native.Mathlib.Omega.{arith}
 use native.Mathlib.Nat.{pow-suc}
 use borrow.Author.Tests.{lt-ltb, le-ltb, ltb-true, ltb-false}
 use lib.Dec.{ltb}
-use lib.ListN.{length, take, set, length-append, length-take}
-use lib.Seq.{take-nil, take-append-le, set-out}
+use lib.ListN.{length, take, set, length-append}
+use lib.Seq.{take-nil}
 use Rattle.lists.specs.Output.{put}
-use Rattle.lists.proofs.Output.{length-put, put-snoc, put-fitting, fitting-snoc}
+use Rattle.lists.proofs.Output.{fitting-snoc}
 use Rattle.decimal.specs.Decimal.{digit, decimalIn, decimal, valueOf, listed}
 
 -- P of each element.
@@ -67,9 +67,6 @@ length-one n h = ap length (decimal-one n h)
 
 pub length-more : (n : ℕ) → 10 ≤ n → length (decimal n) ≡ length (decimal (n / 10)) + 1
 length-more n h = ap length (decimal-more n h) ∙ length-append (decimal (n / 10)) (digit (n % 10) ∷ [])
-
-pub some-digits : (n : ℕ) → 1 ≤ length (decimal n)
-some-digits = by-tenths (λ n. 1 ≤ length (decimal n)) (λ n h. omega (arith, length-one n h)) (λ n h so. omega (arith, length-more n h))
 
 pub digits-within : (n : ℕ) → length (decimal n) ≤ n + 1
 digits-within = by-tenths (λ n. length (decimal n) ≤ n + 1) (λ n h. omega (arith, length-one n h)) (λ n h so. omega (arith, length-more n h))

@@ -4,10 +4,10 @@
 --     without-calls                 where there may be no calls, neither strand is the C-to-T one
 --     zeroed                        so many zeros filled in
 -- Assumes nothing.
-use mathlib.Core.Path.{_≡_, refl, sym, ap, _∙_}
+use mathlib.Core.Path.{_≡_, refl, ap, _∙_}
 use mathlib.Core.Bool.{false, true≢false}
-use mathlib.Core.List.{List, [], _∷_}
-use Prim.Native.Nat.{ℕ, zero, suc, _-_, _≤_, _<_}
+use mathlib.Core.List.{List, []}
+use Prim.Native.Nat.{ℕ, _-_, _≤_, _<_}
 use native.Mathlib.Nat.{sub-zero}
 use native.Mathlib.Omega.{arith}
 use lib.ListN.{length, getD, replicate}
@@ -15,7 +15,7 @@ use borrow.Rule.Slice.PartMut.{putMid, midOf}
 use Rattle.lists.specs.Output.{put}
 use Rattle.lists.specs.Table.{tabulate}
 use Rattle.lists.proofs.Output.{put-equal, fill-next, put-none}
-use Rattle.lists.proofs.Table.{length-tabulate, getD-tabulate, tabulated, repeated}
+use Rattle.lists.proofs.Table.{length-tabulate, tabulated, repeated}
 use Rattle.vanilla_caller.specs.Strand.{Arrays}
 use Rattle.duplex_molecule.specs.Molecule.{canCall}
 use Rattle.duplex_molecule.specs.declared.CtInput.{CtInput}

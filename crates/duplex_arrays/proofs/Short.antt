@@ -3,11 +3,10 @@
 --     nothing-written, all-written      what is written then, for the code
 --     put-all                           for a caller whose arrays are long enough
 -- Assumes nothing.
-use mathlib.Core.Path.{_≡_, refl, sym, _∙_}
-use mathlib.Core.Bool.{Bool, true, false, cond, _&&_, _||_}
-use mathlib.Core.List.{List, [], _∷_}
+use mathlib.Core.Path.{_≡_, refl}
+use mathlib.Core.Bool.{Bool, true, false, _&&_}
+use mathlib.Core.List.{List}
 use Prim.Native.Nat.{ℕ, _≤_}
-use borrow.Author.Tests.{le-ltb}
 use Rattle.lists.specs.Output.{put}
 use Rattle.refusals.specs.Refusal.{tooShort}
 use Rattle.refusals.proofs.Condition.{Every, nor-where, not-too-short, all-reach}

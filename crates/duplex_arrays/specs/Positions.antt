@@ -1,6 +1,6 @@
 -- The arrays of a two-strand record, position by position, document 01: bases, qualities and errors.
 use Prim.Native.Nat.{ℕ}
-use mathlib.Core.Bool.{Bool, true, false, cond, _&&_, _||_}
+use mathlib.Core.Bool.{Bool, false, cond, _&&_, _||_}
 use mathlib.Core.Path.{_≡_}
 use mathlib.Core.List.{List, [], _∷_}
 use lib.ListN.{length, getD}
@@ -10,7 +10,6 @@ use Rattle.refusals.specs.Refusal.{tooShort}
 use Rattle.vanilla_caller.specs.Strand.{Arrays}
 use Rattle.duplex_molecule.specs.Molecule.{canCall}
 use Rattle.duplex_molecule.specs.declared.CtInput.{CtInput}
-use Rattle.duplex_molecule.specs.declared.CtInput.the-variants.{Neither, IsA, IsB}
 use Rattle.duplex_position.specs.declared.Position.{Position}
 use Rattle.duplex_call.specs.Annotated.{combined, estimated}
 

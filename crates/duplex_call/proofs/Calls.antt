@@ -4,8 +4,7 @@ use mathlib.Core.Path.{_≡_, refl, sym, subst}
 use mathlib.Core.Bool.{Bool, true, false, cond, _&&_, _||_, true≢false}
 use lib.Dec.{eqb}
 use borrow.Author.Tests.{eqb-true}
-use Rattle.dna.specs.Dna.{letterA, letterC, letterG, letterT, upper, sameLetter}
-use Rattle.methylation.specs.Methylation.{patternBases}
+use Rattle.dna.specs.Dna.{letterA, letterC, letterG, letterT, upper}
 use Rattle.methylation.specs.declared.Annotation.{Annotation}
 use Rattle.methylation.specs.declared.Annotation.the-variants.{Absent, Of}
 use Rattle.methylation.specs.declared.ConversionPattern.the-variants.{CToT, GToA}

@@ -1,7 +1,7 @@
 -- One position of two strands that may be annotated, document 01: base and quality, the errors' estimate, and what a source read
 -- should show.
 use Prim.Native.Nat.{ℕ}
-use mathlib.Core.Bool.{Bool, true, false, cond, _&&_}
+use mathlib.Core.Bool.{Bool, false, cond, _&&_}
 use lib.Dec.{eqb, ltb}
 use Rattle.dna.specs.Dna.{sameLetter}
 use Rattle.methylation.specs.Methylation.{patternBases}

@@ -2,7 +2,7 @@
 --     none-asked      of no positions: it leaves all as it was
 --     from-zeros      of n positions that were left 0: how many reads are errors at each
 -- Assumes nothing.
-use mathlib.Core.Path.{_≡_, sym, ap, _∙_}
+use mathlib.Core.Path.{_≡_, ap, _∙_}
 use mathlib.Core.List.{List, [], _∷_, foldl}
 use Prim.Native.Nat.{ℕ, _≤_, _<_}
 use native.Mathlib.Nat.{min-eq-left}
@@ -12,7 +12,7 @@ use lib.ListN.{length, getD}
 use Rattle.lists.specs.Output.{put}
 use Rattle.lists.specs.Table.{tabulate}
 use Rattle.lists.proofs.Output.{length-put, put-equal, put-over}
-use Rattle.lists.proofs.Table.{length-tabulate, getD-tabulate, tabulate-equal}
+use Rattle.lists.proofs.Table.{length-tabulate, tabulate-equal}
 use Rattle.lists.proofs.Written.{table-front}
 use Rattle.numbers.proofs.Numbers.{smallest-le}
 use Rattle.duplex_molecule.specs.declared.CtInput.{CtInput}

@@ -25,7 +25,7 @@ use Rattle.duplex_molecule.specs.Molecule.{ctInput}
 use Rattle.duplex_molecule.specs.declared.CtInput.{CtInput}
 use Rattle.duplex_outputs.specs.Outputs.{RecordArrays, recordOf, recordLengths, recordTooShort, LeavesRecord}
 use Rattle.duplex_strands.specs.Combine.{uncounted, combinedErrors}
-use Rattle.duplex_kind.specs.Kind.{Strand, annotated, positions, kindOf, long, givenFaults, strandFaults}
+use Rattle.duplex_kind.specs.Kind.{Strand, annotated, positions, kindOf, givenFaults, strandFaults}
 use Rattle.duplex_kind.specs.declared.DuplexConsensus.{DuplexConsensus}
 use Rattle.duplex_kind.specs.declared.DuplexConsensus.the-variants.{Refused, NoRecord, Ab, Ba, Both}
 use Rattle.duplex_kind.proofs.Kind.{Passes, taken, is-both}

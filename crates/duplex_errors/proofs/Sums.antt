@@ -2,7 +2,6 @@
 --     sum-fits, difference-fits     as 32-bit signed numbers they fit
 --     difference-size               how large a difference is
 -- Assumes nothing.
-use mathlib.Core.Path.{_≡_, refl}
 use mathlib.Core.Bool.{Bool, true, false, cond}
 use Prim.Native.Nat.{ℕ, zero, suc, _+_, _-_, _^_, _≤_, _<_}
 use native.Mathlib.Omega.{arith}

@@ -3,14 +3,13 @@
 --     at-most         there are no more places of evidence than positions
 --     put-kept        for a caller: where evidence is written no array is too short
 -- Assumes nothing.
-use mathlib.Core.Path.{_≡_, refl, ap, _∙_}
+use mathlib.Core.Path.{_≡_, refl, _∙_}
 use mathlib.Core.Bool.{Bool, true, false, cond}
-use mathlib.Core.List.{List, []}
+use mathlib.Core.List.{List}
 use Prim.Native.Nat.{ℕ, _≤_}
 use native.Mathlib.Omega.{arith}
 use Rattle.lists.specs.Output.{put}
 use Rattle.lists.specs.Part.{onlyIf}
-use Rattle.lists.specs.Table.{tabulate}
 use Rattle.lists.proofs.Output.{put-equal}
 use Rattle.methylation.specs.Methylation.{evidenceIf}
 use Rattle.methylation.specs.declared.Annotation.{Annotation}

@@ -4,7 +4,7 @@
 --     is-ab, is-ba, is-both     the same with the record's length, and that the strands that count pass rows 7 and 8
 -- Assumes nothing.
 use mathlib.Core.Path.{_≡_, refl, sym, subst}
-use mathlib.Core.Bool.{Bool, true, false, cond, _&&_, _||_, true≢false}
+use mathlib.Core.Bool.{Bool, true, false, cond, _&&_, true≢false}
 use Prim.Native.Nat.{ℕ, zero, suc, min}
 use native.Mathlib.Omega.{arith}
 use Rattle.lists.specs.Output.{unless, answer}

@@ -1,7 +1,6 @@
 // Which record two strands make, from duplex_caller.rs (duplex_consensus): what refuses them, which of them count, and the record's
 // length. Uses lists, refusals, methylation and vanilla_caller.
 ghost use mathlib.Core.Path.{_≡_};
-ghost use Prim.Native.Nat.{min};
 ghost use Rattle.refusals.specs.Refusal.{refusal};
 ghost use Rattle.vanilla_caller.specs.Strand.{arrays, lengths};
 ghost use Rattle.duplex_kind.specs.Kind.{strand, shorterPresent, counts, kindBy, long, uneven, givenFaults, recordKind};

@@ -5,11 +5,11 @@
 --     depths-sum, capped-sum     their sum, and a strand's, by the number of positions
 -- Assumes nothing.
 use mathlib.Core.Path.{_≡_, refl, sym, ap₂, _∙_}
-use mathlib.Core.List.{List, [], _∷_, foldl, map}
+use mathlib.Core.List.{List, [], _∷_, foldl}
 use Prim.Native.Nat.{ℕ, zero, suc, _+_, _*_, _≤_, _<_}
 use native.Mathlib.Nat.{add-zero}
 use native.Mathlib.Omega.{arith}
-use lib.ListN.{length, take, getD}
+use lib.ListN.{length, take}
 use Rattle.lists.specs.Table.{tabulate}
 use Rattle.lists.proofs.Fold.{fold-step, fold-all}
 use Rattle.lists.proofs.Table.{length-tabulate, getD-tabulate}

@@ -13,7 +13,6 @@ use Rattle.rates.specs.Rate.{bitsOf}
 use Rattle.rates.proofs.Rates.{close, exact, number}
 use Rattle.duplex_metrics.specs.Metrics.{strandFigures, recordFigures, lengths, metricsRefused, metricsRecord, metricsOf, rate}
 use Rattle.duplex_metrics.specs.HonestRates.{Call, Rate, aE, bE, cE, value, bits, behind, errorSum, depthSum, EqualRates, CloseRates}
-use Rattle.duplex_metrics.specs.declared.Metrics.{Metrics}
 use Rattle.duplex_metrics.specs.declared.Metrics.the-variants.{Refused, Of}
 use Rattle.duplex_metrics.specs.declared.MetricsRecord.{MetricsRecord}
 use Rattle.duplex_metrics.proofs.Depths.{depths-sum, capped-sum}

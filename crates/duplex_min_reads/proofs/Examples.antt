@@ -1,7 +1,6 @@
 -- Document 01's own examples of thresholds, of the definitions. Assumes nothing.
 use mathlib.Core.Path.{_≡_, refl}
-use mathlib.Core.List.{List, [], _∷_}
-use Prim.Native.Nat.{ℕ}
+use mathlib.Core.List.{[], _∷_}
 use Rattle.lists.specs.Output.{unless, answer}
 use Rattle.refusals.specs.Refusal.{refusal}
 use Rattle.duplex_min_reads.specs.MinReads.{faults, validated, singleStrand}

@@ -1,6 +1,6 @@
 -- Two strands of which neither is annotated: combined without their evidence, they give what they give with it. Assumes nothing.
 use mathlib.Core.Path.{_≡_, refl, _∙_}
-use mathlib.Core.Bool.{Bool, true, false, _||_, true≢false}
+use mathlib.Core.Bool.{Bool, false, _||_, true≢false}
 use mathlib.Core.List.{[]}
 use Prim.Native.Nat.{ℕ}
 use Rattle.lists.specs.Part.{onlyIf}

@@ -16,13 +16,13 @@ use Rattle.refusals.specs.Refusal.{refusal}
 use Rattle.molecule_fields.specs.Widths.{isRun}
 use Rattle.duplex_molecule.specs.Molecule.{ctInput}
 use Rattle.duplex_molecule.specs.declared.CtInput.{CtInput}
-use Rattle.duplex_outputs.specs.Outputs.{RecordArrays, LeavesRecord}
+use Rattle.duplex_outputs.specs.Outputs.{RecordArrays}
 use Rattle.duplex_outputs.proofs.Outputs.{record-refused}
 use Rattle.duplex_strands.specs.Combine.{uncounted}
 use Rattle.duplex_kind.specs.Kind.{Strand, kindOf, givenFaults}
 use Rattle.duplex_kind.specs.declared.DuplexConsensus.{DuplexConsensus}
 use Rattle.duplex_kind.specs.declared.DuplexConsensus.the-variants.{Refused}
-use Rattle.duplex_record.specs.Record.{recordArrays, duplexFaults, duplexRefused, DuplexAs}
+use Rattle.duplex_record.specs.Record.{duplexFaults, duplexRefused, DuplexAs}
 use Rattle.duplex_consensus.specs.Consensus.{countedPositions, ConsensusAs}
 use Rattle.duplex_consensus.proofs.Counting.{none-asked}
 use Rattle.duplex_consensus.proofs.Made.{with-errors, counted-as}
@@ -30,7 +30,7 @@ use Rattle.source_reads.specs.Reads.{anyLeaves, countedErrors}
 use Rattle.source_reads.specs.declared.SourceRead.{SourceRead}
 use Rattle.read_run.specs.Run.{readsOf}
 use Rattle.read_run.proofs.Claims.{none-leaves}
-use Rattle.duplex_run.specs.Run.{runFaults, runRefused, runErrors, RunAs}
+use Rattle.duplex_run.specs.Run.{runFaults, runRefused, RunAs}
 
 module _ (a b : Strand) (listed : Bool) (run : List ℕ) (before : RecordArrays) where
   -- The refusal of a call on the list of the run's reads.

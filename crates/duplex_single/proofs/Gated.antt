@@ -1,13 +1,11 @@
 -- Evidence is written where there is an annotation, and nowhere else: so many places of it are all or none.
 --     marks-or-none, unconverted-or-none, converted-or-none     of the three arrays
 -- Assumes nothing.
-use mathlib.Core.Path.{_≡_, refl}
-use mathlib.Core.Bool.{Bool, true, false, cond}
-use mathlib.Core.List.{List, []}
+use mathlib.Core.Path.{_≡_}
+use mathlib.Core.Bool.{Bool, cond}
+use mathlib.Core.List.{List}
 use Prim.Native.Nat.{ℕ}
-use Rattle.lists.specs.Output.{put}
 use Rattle.lists.specs.Part.{onlyIf}
-use Rattle.lists.specs.Table.{tabulate}
 use Rattle.lists.proofs.Table.{table-or-none}
 use Rattle.duplex_single.specs.Single.{marksGated, unconvertedGated, convertedGated}
 

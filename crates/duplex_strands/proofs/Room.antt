@@ -4,9 +4,9 @@
 --     errors-enough, first-enough, second-enough  for the errors, and for the evidence of A and of B
 -- Assumes nothing.
 use mathlib.Core.Path.{_≡_, refl, sym}
-use mathlib.Core.Bool.{Bool, true, false, _&&_, _||_, true≢false}
+use mathlib.Core.Bool.{true, false, _&&_, _||_, true≢false}
 use mathlib.Core.List.{[], _∷_}
-use Prim.Native.Nat.{ℕ, _≤_, min}
+use Prim.Native.Nat.{ℕ, _≤_}
 use native.Mathlib.Omega.{arith}
 use Rattle.refusals.specs.Refusal.{ragged, tooShort, refusal}
 use Rattle.refusals.proofs.Refusal.{passed}

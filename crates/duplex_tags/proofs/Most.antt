@@ -1,20 +1,19 @@
 -- For callers: with outputs that are long enough for any tags, row 12 never refuses. Assumes nothing.
-use mathlib.Core.Path.{_≡_, refl, sym, ap, _∙_}
-use mathlib.Core.Bool.{Bool, true, false, cond, _||_}
+use mathlib.Core.Path.{_≡_, refl, sym, _∙_}
+use mathlib.Core.Bool.{Bool, true, false}
 use mathlib.Core.List.{List}
-use Prim.Native.Nat.{ℕ, _≤_}
+use Prim.Native.Nat.{ℕ}
 use native.Mathlib.Omega.{arith}
 use borrow.Author.Tests.{le-ltb, eqb-true}
 use lib.Dec.{eqb}
 use lib.ListN.{length}
 use Rattle.refusals.specs.Refusal.{refusal}
 use Rattle.methylation.specs.declared.MethylationMode.{MethylationMode}
-use Rattle.duplex_texts.specs.Texts.{Strand, TextArrays, duplexTexts}
-use Rattle.duplex_texts.specs.Outputs.{textLengths, givenOf, textsTooShort, AmpleTexts}
-use Rattle.duplex_texts.specs.Parts.{AsLong}
+use Rattle.duplex_texts.specs.Texts.{Strand, TextArrays}
+use Rattle.duplex_texts.specs.Outputs.{givenOf, AmpleTexts}
 use Rattle.duplex_texts.proofs.Refused.{as-long}
 use Rattle.duplex_texts.proofs.Most.{texts-fit}
-use Rattle.duplex_tags.specs.Tags.{CountArrays, duplexCounts}
+use Rattle.duplex_tags.specs.Tags.{CountArrays}
 use Rattle.duplex_tags.specs.Outputs.{countLengths, countsTooShort, duplexRefused, AmpleCounts}
 use Rattle.duplex_tags.specs.Parts.{placesOf, neededCounts}
 use Rattle.duplex_tags.proofs.Counts.{few-places}

@@ -7,21 +7,21 @@
 --     number-is                    the number that the texts' answer has
 -- Assumes nothing.
 use mathlib.Core.Path.{_≡_, refl, sym, ap, _∙_}
-use mathlib.Core.Bool.{Bool, true, false, cond, _||_, true≢false}
-use mathlib.Core.List.{List, [], _∷_, _++_}
+use mathlib.Core.Bool.{Bool, true, false, cond, _||_}
+use mathlib.Core.List.{List, [], _∷_}
 use Prim.Native.Nat.{ℕ, zero, suc, _≤_}
 use native.Mathlib.Omega.{arith}
 use lib.Dec.{eqb}
 use lib.ListN.{length}
 use borrow.Author.Tests.{ltb-false, eqb-true, eqb-false}
 use Rattle.lists.specs.Output.{unless, answer}
-use Rattle.refusals.specs.Refusal.{Fault, _if_, order, sorted, refusal, refuseIf}
+use Rattle.refusals.specs.Refusal.{_if_, refusal, refuseIf}
 use Rattle.refusals.proofs.Condition.{neither}
-use Rattle.refusals.proofs.Refusal.{listed, and-then}
+use Rattle.refusals.proofs.Refusal.{and-then}
 use Rattle.methylation.specs.declared.MethylationMode.{MethylationMode}
 use Rattle.methylation_evidence.proofs.Counts.{summed-length}
 use Rattle.duplex_texts.specs.Texts.{Strand, TextArrays, duplexTexts}
-use Rattle.duplex_texts.specs.Outputs.{textLengths, evidenceLengths, givenFaults, givenOf, textsTooShort, textsFaults, textsRefused, written}
+use Rattle.duplex_texts.specs.Outputs.{textLengths, givenFaults, givenOf, textsTooShort, textsFaults, textsRefused, written}
 use Rattle.duplex_texts.specs.Parts.{AsLong}
 use Rattle.duplex_texts.specs.declared.DuplexTexts.{DuplexTexts}
 use Rattle.duplex_texts.specs.declared.DuplexTexts.the-variants.{Refused}

@@ -1,14 +1,12 @@
 -- Calls of other crates that no row refuses here, so that what they write is known.
 --     bases-fit, restore-fits, tags-fit     of restoring a sequence, and of a strand's tags
 -- Assumes nothing.
-use mathlib.Core.Path.{_≡_, refl, sym, _∙_}
+use mathlib.Core.Path.{_≡_, refl}
 use mathlib.Core.Bool.{true}
 use mathlib.Core.List.{List}
 use Prim.Native.Nat.{ℕ, _≤_}
 use borrow.Author.Tests.{le-ltb, eq-eqb}
 use lib.ListN.{length}
-use Rattle.lists.specs.Output.{put, after}
-use Rattle.lists.proofs.Output.{after-passed}
 use Rattle.refusals.specs.Refusal.{refusal}
 use Rattle.methylation.specs.Methylation.{isAnnotated}
 use Rattle.methylation.specs.declared.Annotation.{Annotation}

@@ -4,17 +4,15 @@
 --     needed          how many places go to each output
 --     all-put         what is written from the buffers is the definition's
 -- Assumes nothing.
-use mathlib.Core.Path.{_≡_, refl, sym, ap, _∙_}
+use mathlib.Core.Path.{_≡_, sym}
 use mathlib.Core.Bool.{Bool}
 use mathlib.Core.List.{List}
 use Prim.Native.Nat.{ℕ, _+_, _≤_}
 use native.Mathlib.Omega.{arith}
-use lib.ListN.{length, take, drop, length-append}
-use Rattle.lists.specs.Output.{put}
-use Rattle.lists.proofs.Output.{put-equal, put-holds, front-of}
-use Rattle.methylation.specs.declared.Annotation.{Annotation}
+use lib.ListN.{length}
+use Rattle.lists.proofs.Output.{put-holds, front-of}
 use Rattle.methylation.specs.declared.MethylationMode.{MethylationMode}
-use Rattle.duplex_texts.specs.Texts.{Strand, TextArrays, duplexSeq, strandMm, strandMl, secondFirst, grouped, duplexTexts}
+use Rattle.duplex_texts.specs.Texts.{Strand, TextArrays, duplexSeq, strandMm, strandMl, secondFirst, duplexTexts}
 use Rattle.duplex_texts.specs.Outputs.{textLengths}
 use Rattle.duplex_texts.specs.Parts.{Buffers, MadeAs, Buffered, TextsPut, neededFor}
 use Rattle.duplex_texts.specs.declared.BothLengths.{BothLengths}

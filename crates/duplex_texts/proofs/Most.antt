@@ -2,7 +2,7 @@
 --     seq-most, first-most, second-most, combined-most, bytes-most     each, by how many bases there are
 --     texts-fit          outputs of those lengths are never too short
 -- Assumes nothing.
-use mathlib.Core.Path.{_≡_, refl, sym, ap, _∙_}
+use mathlib.Core.Path.{_≡_}
 use mathlib.Core.Bool.{false}
 use mathlib.Core.List.{List}
 use Prim.Native.Nat.{ℕ, _+_, _*_, _≤_}

@@ -3,21 +3,18 @@
 --     refused-given, refused-room  the number, by the test that gave it
 --     Room, enough-room            what the second test leaves
 -- Assumes nothing.
-use mathlib.Core.Path.{_≡_, refl, sym, ap, _∙_}
-use mathlib.Core.Bool.{Bool, true, false, cond, _&&_, _||_, true≢false}
-use mathlib.Core.List.{List, [], _∷_, _++_}
+use mathlib.Core.Path.{_≡_, refl, sym}
+use mathlib.Core.Bool.{Bool, true, false, cond, _&&_, true≢false}
+use mathlib.Core.List.{List, _∷_}
 use Prim.Native.Nat.{ℕ, _≤_}
 use lib.Dec.{eqb, ltb}
-use lib.ListN.{length}
 use borrow.Author.Tests.{ltb-false, eq-eqb, ne-eqb}
-use Rattle.refusals.specs.Refusal.{Fault, order, sorted, refusal, tooLong, ragged}
-use Rattle.refusals.proofs.Refusal.{listed, and-then, passed}
+use Rattle.refusals.specs.Refusal.{Fault, refusal, ragged}
+use Rattle.refusals.proofs.Refusal.{and-then, passed}
 use Rattle.refusals.proofs.Condition.{Every, not-ragged, neither}
 use Rattle.methylation.specs.Methylation.{isAnnotated}
-use Rattle.methylation.specs.declared.Annotation.{Annotation}
 use Rattle.methylation.specs.declared.MethylationMode.{MethylationMode}
 use Rattle.methylation_evidence.specs.Arrays.{three}
-use Rattle.methylation_evidence.specs.declared.EvidenceLengths.{EvidenceLengths}
 use Rattle.duplex_texts.specs.Texts.{Strand, TextArrays, duplexTexts}
 use Rattle.duplex_texts.specs.Outputs.{textLengths, evidenceLengths, uneven, givenFaults, givenOf, textsTooShort, roomFaults, textsFaults, textsRefused}
 use Rattle.duplex_texts.specs.Parts.{AsLong}

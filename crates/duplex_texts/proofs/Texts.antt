@@ -6,29 +6,28 @@
 --     grouped-length         how long two are together
 --     joined                 one written behind the other
 -- Assumes nothing.
-use mathlib.Core.Path.{_≡_, refl, sym, ap, _∙_}
+use mathlib.Core.Path.{_≡_, refl, ap, _∙_}
 use mathlib.Core.Bool.{Bool, true, false}
 use mathlib.Core.List.{List, [], _∷_, _++_, map}
 use Prim.Native.Nat.{ℕ, _+_, _-_, _*_, _≤_}
 use native.Mathlib.Nat.{sub-zero, add-comm}
 use native.Mathlib.Omega.{arith}
 use borrow.Rule.Slice.PartMut.{putMid, midOf}
-use lib.ListN.{length, take, drop, length-append}
-use lib.Seq.{take-append-seam, drop-append-seam}
+use lib.ListN.{length, take, length-append}
+use lib.Seq.{drop-append-seam}
 use Rattle.lists.specs.Output.{unless, answer, put, after}
-use Rattle.lists.proofs.Output.{put-fitting, put-whole, put-equal, length-put, copy-next, written, front-of, put-none}
+use Rattle.lists.proofs.Output.{put-fitting, put-whole, length-put, copy-next, written, front-of, put-none}
 use Rattle.methylation.specs.Methylation.{isAnnotated, patternBases}
 use Rattle.methylation.specs.declared.Annotation.{Annotation}
 use Rattle.methylation.specs.declared.Annotation.the-variants.{Absent, Of}
 use Rattle.methylation.specs.declared.ConversionPattern.{ConversionPattern}
 use Rattle.methylation.specs.declared.MethylationMode.{MethylationMode}
 use Rattle.methylation_restore.specs.Restore.{restored, restoreRefused, strandBases}
-use Rattle.methylation_restore.proofs.Restored.{restored-length, strand-of}
+use Rattle.methylation_restore.proofs.Restored.{restored-length}
 use Rattle.mm_ml.specs.Tags.{Annotated, annotated, Evident, TaggedAs, calls, allText, mlByte, ifCalled, mmText, mlArray, tagsIfCalled}
 use Rattle.mm_ml.specs.declared.MmMl.{MmMl}
-use Rattle.mm_ml.specs.declared.MmMl.the-variants.{Refused}
 use Rattle.mm_ml.proofs.Group as group
-use Rattle.duplex_texts.specs.Texts.{Strand, strand, restoredSeq, duplexSeq, strandMm, strandMl, grouped}
+use Rattle.duplex_texts.specs.Texts.{Strand, strand, restoredSeq, strandMm, strandMl, grouped}
 use Rattle.duplex_texts.specs.Parts.{AsLong, lengthsOf, TextsAs}
 use Rattle.duplex_texts.specs.declared.StrandLengths.{StrandLengths}
 use Rattle.duplex_texts.proofs.Fits.{restore-fits, tags-fit}

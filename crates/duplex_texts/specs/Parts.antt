@@ -6,7 +6,6 @@ use mathlib.Core.List.{List}
 use lib.ListN.{length, take}
 use Rattle.lists.specs.Output.{put}
 use Rattle.methylation.specs.Methylation.{isAnnotated}
-use Rattle.methylation.specs.declared.Annotation.{Annotation}
 use Rattle.methylation.specs.declared.MethylationMode.{MethylationMode}
 use Rattle.mm_ml.specs.declared.MmMl.{MmMl}
 use Rattle.mm_ml.specs.declared.MmMl.the-variants.{Refused, NoTag, Tags}

@@ -1,5 +1,5 @@
 -- Laws of evidence as bytes.
---     length-position, length-evidence     how many bytes there are
+--     length-position                      how many bytes there are
 --     mark-at, count-at                    a position's mark and counts in the bytes of all
 --     marks-back, unconverted-back, converted-back     what was written is read back; counts of one length with the marks
 -- Assumes nothing.
@@ -8,21 +8,17 @@ use mathlib.Core.List.{List, [], _∷_}
 use Prim.Native.Nat.{ℕ, suc, _+_, _*_, _/_, _^_, _≤_, _<_}
 use native.Mathlib.Omega.{arith}
 use native.Mathlib.Nat.{add-zero}
-use lib.ListN.{length, take, drop, getD, length-append}
+use lib.ListN.{length, drop, getD, length-append}
 use lib.Seq.{getD-take, getD-drop, take-all, drop-at, take-at}
 use Rattle.byte_numbers.specs.Bytes.{numberOf, bytesOf}
 use Rattle.byte_numbers.specs.Groups.{group, byGroup}
 use Rattle.byte_numbers.proofs.Bytes.{length-bytes, number-of-bytes, four-at}
-use Rattle.byte_numbers.proofs.Groups.{group-room, part-of-group, length-joined, by-group-joined}
+use Rattle.byte_numbers.proofs.Groups.{group-room, part-of-group, by-group-joined}
 use Rattle.evidence_bytes.specs.Evidence.{positionBytes, evidenceBytes, markIn, countIn, marksOf, unconvertedOf, convertedOf}
 
 pub length-position : (mark unconverted converted : ℕ) → length (positionBytes mark unconverted converted) ≡ 9
 unfolding positionBytes
 length-position mark unconverted converted = ap suc (length-append (bytesOf 4 unconverted) (bytesOf 4 converted) ∙ rw (length-bytes 4 unconverted, length-bytes 4 converted))
-
-pub length-evidence : (marks unconverted converted : List ℕ) → length (evidenceBytes marks unconverted converted) ≡ 9 * length marks
-unfolding evidenceBytes
-length-evidence marks unconverted converted = length-joined 9 _ (λ i. length-position (getD marks i 0) (getD unconverted i 0) (getD converted i 0)) (length marks)
 
 module _ (bytes : List ℕ) (i : ℕ) (h : i < length bytes / 9) where
   pub mark-at : getD bytes (9 * i) 0 ≡ markIn (group 9 bytes i)

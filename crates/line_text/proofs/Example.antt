@@ -10,7 +10,7 @@ use Rattle.text_output.specs.Text as text
 use Rattle.text_output.specs.Text.{ascii}
 use Rattle.metrics_bits.specs.declared.MetricsBits.{MetricsBits}
 use Rattle.metrics_text.specs.MetricsText as metrics
-use Rattle.duplex_kind.specs.declared.DuplexConsensus.the-variants.{Refused, NoRecord, Ab, Ba, Both}
+use Rattle.duplex_kind.specs.declared.DuplexConsensus.the-variants.{Refused, NoRecord, Ba, Both}
 use Rattle.line_text.specs.Line.{header, gateText, columns, fieldsText, lineText}
 
 figures : MetricsBits

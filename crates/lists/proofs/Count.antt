@@ -4,7 +4,7 @@
 --     counts-few               no more are counted than there are
 --     Counting                 the invariant of a loop that counts: begin, next, done
 -- Assumes nothing.
-use mathlib.Core.Path.{_≡_, refl, sym, _∙_}
+use mathlib.Core.Path.{_≡_, refl, _∙_}
 use mathlib.Core.Bool.{Bool, true, false, cond}
 use mathlib.Core.List.{List, [], _∷_, _++_, foldl, foldl-append}
 use Prim.Native.Nat.{ℕ, suc, _+_, _≤_, _<_}

@@ -9,8 +9,8 @@ use mathlib.Core.Bool.{Bool, true, false, cond}
 use mathlib.Core.List.{List, [], _∷_, _++_, append-nil, append-assoc, map, map-append}
 use Prim.Native.Nat.{ℕ, _+_, _-_, _*_, _≤_, _<_}
 use native.Mathlib.Omega.{arith}
-use lib.ListN.{length, take, set, getD, length-append, length-map, length-set, take-append-drop}
-use lib.Seq.{take-append-seam, drop-append-add, drop-drop, length-take-le, append-snoc}
+use lib.ListN.{length, take, set, getD, length-append, length-map, length-set}
+use lib.Seq.{length-take-le, append-snoc}
 use borrow.Rule.Slice.PartMut.{putMid, midOf}
 use Rattle.lists.specs.Output.{put}
 use Rattle.lists.specs.Part.{onlyIf}

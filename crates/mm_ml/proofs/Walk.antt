@@ -7,13 +7,13 @@
 -- For any test of a letter and of a position. Assumes nothing.
 use mathlib.Core.Path.{_≡_, refl, sym, ap, _∙_}
 use mathlib.Core.Bool.{Bool, true, false, cond}
-use mathlib.Core.List.{List, [], _∷_, _++_, append-nil, append-assoc, foldl-append}
+use mathlib.Core.List.{List, [], _∷_, _++_, append-nil}
 use Prim.Native.Nat.{ℕ, zero, suc, _+_, _-_, _*_, _≤_, _<_}
 use native.Mathlib.Omega.{arith}
 use native.Mathlib.Nat.{add-zero}
 use native.Mathlib.Numerals.{add-one}
-use lib.ListN.{length, take, getD, length-append}
-use lib.Seq.{slice, slice-empty, take-suc, drop-append-le, length-take-le}
+use lib.ListN.{length, getD, length-append}
+use lib.Seq.{slice, slice-empty}
 use Rattle.lists.specs.Count.{countIf, countOf}
 use Rattle.lists.specs.Part.{onlyIf}
 use Rattle.lists.proofs.Count.{count-snoc}

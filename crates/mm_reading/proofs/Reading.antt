@@ -12,7 +12,6 @@ use borrow.Author.Tests.{ne-eqb, ltb-true, ltb-false}
 use lib.Dec.{eqb, ltb}
 use lib.ListN.{length, drop, getD}
 use lib.Seq.{slice, slice-cons, drop-cons}
-use Rattle.lists.specs.Count.{countIf, countOf}
 use Rattle.lists.specs.Part.{onlyIf}
 use Rattle.lists.proofs.Count.{count-cons}
 use Rattle.refusals.proofs.Condition.{both-hold}

@@ -5,13 +5,11 @@
 use mathlib.Core.Path.{_≡_, refl, sym, ap, ap₂, _∙_}
 use mathlib.Core.Bool.{Bool, true, false, cond, not, _&&_, _||_}
 use mathlib.Core.List.{List, [], _∷_, map, foldl}
-use Prim.Native.Nat.{ℕ, zero, suc, _+_, _-_, _≤_}
-use native.Mathlib.Nat.{sub-zero, zero-sub, suc-sub-suc}
+use Prim.Native.Nat.{ℕ, _+_, _-_, _≤_}
 use native.Mathlib.Omega.{arith}
 use borrow.Author.Tests.{le-ltb, leb-true}
 use lib.Dec.{eqb, leb}
-use lib.ListN.{length, take, drop}
-use lib.Seq.{drop-drop, take-nil}
+use lib.ListN.{length, drop}
 use Rattle.lists.specs.Every.{every}
 use Rattle.lists.specs.Part.{leaves, part}
 use Rattle.lists.proofs.Part.{part-after}

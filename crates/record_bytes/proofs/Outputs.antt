@@ -6,8 +6,7 @@
 use mathlib.Core.Path.{_≡_, refl, sym, ap, subst, _∙_}
 use mathlib.Core.Bool.{Bool, true, false, _&&_, _||_}
 use mathlib.Core.List.{List, [], _∷_}
-use Prim.Native.Nat.{ℕ, _-_, _/_, _≤_}
-use native.Mathlib.Nat.{sub-zero}
+use Prim.Native.Nat.{ℕ, _/_, _≤_}
 use native.Mathlib.Omega.{arith}
 use borrow.Author.Needs.{zero≤}
 use lib.ListN.{length, take, length-take}
@@ -23,7 +22,7 @@ use Rattle.duplex_outputs.specs.Outputs.{RecordArrays, recordLengths, recordToo
 use Rattle.duplex_outputs.specs.declared.RecordLengths.{RecordLengths}
 use Rattle.duplex_kind.specs.declared.DuplexConsensus.{DuplexConsensus}
 use Rattle.duplex_kind.specs.declared.DuplexConsensus.the-variants.{Refused}
-use Rattle.record_bytes.specs.Outputs.{RecordBytes, asBytes, asArrays, LeavesBytes, shortFor, outputsRefused, evidencePlaces, fronts, WrittenAs, positionsIn}
+use Rattle.record_bytes.specs.Outputs.{RecordBytes, asArrays, LeavesBytes, shortFor, outputsRefused, evidencePlaces, fronts, WrittenAs, positionsIn}
 use Rattle.record_bytes.specs.declared.Written.{Written}
 
 -- Evidence of m, u and v, by the fronts m', u' and v' that the code has of them.

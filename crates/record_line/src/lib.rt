@@ -1,8 +1,6 @@
 // The text that a duplex record is reported with, from what the library answered and wrote: its gate and its metrics are asked here,
 // on the record's own strands. Uses lists, duplex_kind, duplex_reads, duplex_gate, duplex_metrics, text_output, metrics_bits and
 // line_text.
-ghost use mathlib.Core.Path.{_≡_};
-ghost use lib.ListN.{take};
 ghost use Rattle.duplex_metrics.specs.Metrics.{input};
 ghost use Rattle.line_text.specs.Line.{lineText};
 ghost use Rattle.record_line.specs.Line.{bareText, refusedText, measuredText, gatedText, recordText, answerText, Holds, HoldsOf};

@@ -5,13 +5,13 @@
 -- Assumes nothing.
 use mathlib.Core.Path.{_≡_, refl, sym, ap, _∙_}
 use mathlib.Core.Bool.{Bool, true, false, cond}
-use mathlib.Core.List.{List, _++_}
-use Prim.Native.Nat.{ℕ, _+_, _-_, _<_, _≤_}
+use mathlib.Core.List.{List}
+use Prim.Native.Nat.{ℕ, _+_, _<_, _≤_}
 use native.Mathlib.Omega.{arith}
 use borrow.Author.Tests.{ltb-true, ltb-false}
 use lib.Dec.{ltb}
-use lib.ListN.{length, getD, set, take, drop, length-take, List·getD-append}
-use lib.Seq.{getD-append-add, getD-drop, ext-getD}
+use lib.ListN.{length, getD, set}
+use lib.Seq.{ext-getD}
 use Rattle.lists.specs.Output.{put}
 use Rattle.lists.specs.Table.{tabulate}
 use Rattle.lists.proofs.Output.{length-put, Filling, begin, same, fits, next, done}

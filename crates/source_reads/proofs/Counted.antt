@@ -9,9 +9,9 @@
 --     few-errors           no more than there are reads
 -- Assumes nothing.
 use mathlib.Core.Path.{_≡_, refl, sym, ap, _∙_}
-use mathlib.Core.Bool.{Bool, true, false, cond, not}
+use mathlib.Core.Bool.{Bool, true, false, cond}
 use mathlib.Core.List.{List, [], _∷_, _++_, foldl, foldl-append}
-use Prim.Native.Nat.{ℕ, suc, _+_, _-_, _≤_, _<_, min}
+use Prim.Native.Nat.{ℕ, _+_, _-_, _≤_, _<_, min}
 use native.Mathlib.Nat.{le-trans, min-le-left, min-le-right}
 use native.Mathlib.Omega.{arith}
 use native.Mathlib.Numerals.{add-one}
@@ -25,7 +25,7 @@ use Rattle.lists.specs.Part.{leaves, part}
 use Rattle.lists.specs.Table.{tabulate}
 use Rattle.lists.proofs.Output.{length-put, put-equal, put-over}
 use Rattle.lists.proofs.Part.{stays, part-outside, part-within}
-use Rattle.lists.proofs.Table.{length-tabulate, getD-tabulate, tabulate-equal}
+use Rattle.lists.proofs.Table.{length-tabulate, tabulate-equal}
 use Rattle.lists.proofs.Written.{table-front, put-more}
 use Rattle.numbers.specs.Numbers.{saturatingAdd}
 use Rattle.numbers.proofs.Numbers.{smallest-le}

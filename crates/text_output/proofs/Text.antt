@@ -15,7 +15,7 @@ use native.Mathlib.Numerals.{add-one}
 use native.Mathlib.Omega.{arith}
 use borrow.Rule.Slice.PartMut.{putMid, midOf}
 use lib.ListN.{length, take, drop, getD, length-append, length-take, length-drop, length-map, List·getD-map}
-use lib.Seq.{drop-drop, drop-append-add, take-suc, take-take, take-all, take-append-seam, length-take-le}
+use lib.Seq.{take-suc, take-take, take-all, length-take-le}
 use Rattle.lists.specs.Output.{put}
 use Rattle.lists.proofs.Output.{length-put, put-fitting, copy-next, put-take, put-over, front-of}
 use Rattle.decimal.specs.Decimal.{decimal, listed}

@@ -3,17 +3,16 @@
 --     padTo-same       to the same length it is a copy
 --     padded-left, padded-right     what a fill and a copy, each of a part of the output, write
 -- Assumes nothing.
-use mathlib.Core.Path.{_≡_, refl, sym, ap, _∙_}
-use mathlib.Core.Bool.{Bool, true, false, cond}
-use mathlib.Core.List.{List, [], _∷_, _++_, append-nil}
-use Prim.Native.Nat.{ℕ, zero, suc, _+_, _-_, _≤_, _<_}
+use mathlib.Core.Path.{_≡_, refl, _∙_}
+use mathlib.Core.Bool.{Bool, true, false}
+use mathlib.Core.List.{List, [], append-nil}
+use Prim.Native.Nat.{ℕ, _-_, _≤_}
 use native.Mathlib.Nat.{sub-zero, sub-self}
 use native.Mathlib.Omega.{arith}
-use lib.ListN.{length, take, replicate, length-append, length-replicate, length-take}
-use lib.Seq.{take-all}
+use lib.ListN.{length, take, replicate, length-append, length-replicate}
 use borrow.Rule.Slice.PartMut.{putMid, midOf}
 use Rattle.lists.specs.Output.{put}
-use Rattle.lists.proofs.Output.{put-fitting, copy-next, fill-next, put-none}
+use Rattle.lists.proofs.Output.{copy-next, fill-next, put-none}
 use Rattle.vanilla_padded.specs.Padding.{padTo}
 
 module _ {A : Type 0} (v : A) (xs : List A) where

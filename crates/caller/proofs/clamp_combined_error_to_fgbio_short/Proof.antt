@@ -1,12 +1,11 @@
 -- `caller::clamp_combined_error_to_fgbio_short` meets its contract, by its two tests. Assumes nothing.
-use mathlib.Core.Path.{_≡_, refl, _∙_, ap}
-use mathlib.Core.Bool.{Bool, true, false}
+use mathlib.Core.Path.{_≡_, _∙_, ap}
+use mathlib.Core.Bool.{Bool}
 use lib.IntN.{ℤ, pos, natAbs}
 use lib.Signed.{ltZ}
 use mir.Facts.{toZ-ofZ}
 use mir.Syntax.{w32}
 use mir.Val.{SFits, toZ, ofZ}
-use Rattle.caller.specs.Short.{shortOf}
 use Rattle.caller.proofs.Short.{below, above, between, not-negative, small}
 use Rattle.caller.proofs.clamp_combined_error_to_fgbio_short.Statement.{statement}
 use Rattle.caller.proofs.clamp_combined_error_to_fgbio_short.Tie as tie

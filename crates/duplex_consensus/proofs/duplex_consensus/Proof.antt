@@ -3,8 +3,8 @@
 -- leave together. The outputs are passed on for good, but for `errors_out`, which is lent for the first call and comes back.
 -- Assumes nothing.
 use mathlib.Core.Path.{_≡_, refl, ap, _∙_}
-use Prim.Native.Nat.{ℕ, _-_}
-use mathlib.Core.Bool.{Bool, not, _&&_}
+use Prim.Native.Nat.{ℕ}
+use mathlib.Core.Bool.{Bool, _&&_}
 use mathlib.Core.List.{List, [], _∷_}
 use mathlib.Core.Option.{some}
 use lib.ListN.{length}
@@ -22,7 +22,7 @@ use contract.Monad.{Fun}
 use contract.Running.{givenOf, tables, tablesOf}
 use types.Kit.{Given, Item, mean, ‵, raw, _⊛_, ⋆, some as someᵢ, later, _$_, _∵_, !, qed, by, move, keep, group, drop, use1, use2, use3, split, pick, fsplit, fjoin, feqI, suffices, frame, await, updating, now as at-once, show, feqL, done}
 use types.Part.{whole, sub, look-in, agg}
-use types.Run.{look, store, init, stop, hop, fld, from, load, of-opd, addr, and-then, no-more, assigns, land, first, returns, enter, alloc1, alloc0, params1, pass1, pass0}
+use types.Run.{look, store, init, stop, hop, fld, from, load, of-opd, addr, and-then, no-more, assigns, land, returns, enter, alloc1, alloc0, params1, pass1, pass0}
 use sound.WpLaws.{fmOf, WpFn-mono}
 use denote.RattleType.{owns}
 use denote.Laws.{Is}
@@ -42,7 +42,7 @@ use denote.Triple.Walked.{stay-dropped, goes-dropped, says, Stays, walkOf, Walks
 use denote.Exit.{yes}
 use types.Tokens.{lft-new, lft-end}
 use Rattle.source_reads.proofs.Relend.{at-name, Meanwhile, lends-on, has-back}
-use Rattle.source_reads.proofs.Walk.{bundle, trues, pads, opened, padded, told-slice, goes-told-slice, after, leaves, dups, calls-told, calls-left}
+use Rattle.source_reads.proofs.Walk.{bundle, trues, pads, opened, padded, told-slice, goes-told-slice, leaves, dups, calls-told, calls-left}
 use Rattle.vanilla_caller.specs.Strand.{arrays}
 use Rattle.duplex_molecule.specs.Molecule.{ctInput}
 use Rattle.duplex_outputs.specs.Outputs.{RecordArrays, recordOf}

@@ -1,5 +1,5 @@
 -- `duplex_errors::estimate_agreeing` meets its contract: the sum fits, and is clamped. Assumes nothing.
-use mathlib.Core.Path.{_≡_, _∙_}
+use mathlib.Core.Path.{_∙_}
 use native.Mathlib.Omega.{arith}
 use borrow.Author.Needs.{needs}
 use lib.IntN.{pos}

@@ -1,5 +1,5 @@
 -- `duplex_errors::estimate_disagreeing` meets its contract: difference and sum fit, and are clamped. Assumes nothing.
-use mathlib.Core.Path.{_≡_, _∙_}
+use mathlib.Core.Path.{_∙_}
 use native.Mathlib.Omega.{arith}
 use borrow.Author.Needs.{needs}
 use lib.IntN.{pos, _-ℤ_}

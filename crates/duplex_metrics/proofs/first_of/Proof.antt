@@ -1,5 +1,5 @@
 -- `duplex_metrics::first_of` meets its contract: the first of the depths, or 0. Assumes nothing.
-use mathlib.Core.Path.{_≡_, sym, _∙_}
+use mathlib.Core.Path.{sym, _∙_}
 use Prim.Native.Nat.{_<_}
 use native.Mathlib.Omega.{arith}
 use Rattle.lists.specs.Table.{tabulate}

@@ -1,7 +1,7 @@
 -- `duplex_metrics::smallest_of` meets its contract: after i turns it has the smallest of the first depth and of the first i. Assumes nothing.
 use Prim.Native.Nat.{_≤_, _-_, min}
 use native.Mathlib.Omega.{arith}
-use mathlib.Core.Path.{_≡_, refl, _∙_}
+use mathlib.Core.Path.{_≡_, _∙_}
 use mathlib.Core.List.{foldl}
 use lib.ListN.{take, getD}
 use Rattle.duplex_metrics.specs.Metrics.{recordDepths}

@@ -1,5 +1,5 @@
 -- `duplex_metrics::strand_figures` meets its contract: beside an empty strand the depths are the strand's own. Assumes nothing.
-use mathlib.Core.Path.{_≡_, ap, _∙_}
+use mathlib.Core.Path.{ap, _∙_}
 use mathlib.Core.List.{List}
 use Prim.Native.Nat.{ℕ}
 use borrow.Author.Needs.{needs}

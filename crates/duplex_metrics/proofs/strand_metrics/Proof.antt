@@ -1,5 +1,5 @@
 -- `duplex_metrics::strand_metrics` meets its contract: refused by its number, or the strand's figures. Assumes nothing.
-use mathlib.Core.Path.{_≡_, ap, _∙_}
+use mathlib.Core.Path.{ap, _∙_}
 use mathlib.Core.List.{[], _∷_}
 use lib.ListN.{length}
 use denote.Ref.{now}

@@ -1,6 +1,6 @@
 -- `duplex_min_reads::validate_min_reads` meets its contract: its four tests are the faults of `faults`, in the table's order.
 -- Assumes nothing.
-use mathlib.Core.Path.{_≡_, sym}
+use mathlib.Core.Path.{_≡_}
 use mathlib.Core.List.{List}
 use Prim.Native.Nat.{ℕ}
 use denote.Ref.{now}

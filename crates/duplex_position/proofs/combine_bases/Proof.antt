@@ -1,6 +1,5 @@
 -- `duplex_position::combine_bases` meets its contract: equal bases, B's higher quality, or A's. Assumes nothing.
-use mathlib.Core.Path.{_≡_, ap, _∙_}
-use Prim.Native.Nat.{ℕ}
+use mathlib.Core.Path.{ap, _∙_}
 use borrow.Author.Tests.{eq-eqb, ne-eqb, lt-ltb, le-ltb}
 use Rattle.duplex_position.specs.Combination.{masked, uncalled}
 use Rattle.duplex_position.proofs.combine_bases.Statement.{statement}

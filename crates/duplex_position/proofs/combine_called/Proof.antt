@@ -1,5 +1,5 @@
 -- `duplex_position::combine_called` meets its contract, by the outcome of its test. Assumes nothing.
-use mathlib.Core.Path.{_≡_, ap, _∙_}
+use mathlib.Core.Path.{ap, _∙_}
 use Rattle.duplex_position.specs.Combination.{masked, called}
 use Rattle.duplex_position.proofs.combine_called.Statement.{statement}
 use Rattle.duplex_position.proofs.combine_called.Tie as tie

@@ -1,6 +1,6 @@
 -- `duplex_tags::duplex_methylation_tags` meets its contract: refused by its own test or by that of the texts, or all is written.
 -- Assumes nothing.
-use mathlib.Core.Path.{_≡_, refl, sym, ap, _∙_}
+use mathlib.Core.Path.{_≡_, refl, ap, _∙_}
 use Prim.Native.Nat.{ℕ}
 use denote.Ref.{now}
 use lib.ListN.{length}

@@ -1,9 +1,7 @@
 -- `duplex_tags::write_counts` meets its contract: each strand's counts are all of its array or none, and no row refuses a call. Assumes nothing.
-use mathlib.Core.Path.{_≡_, refl, sym, ap, _∙_}
 use native.Mathlib.Omega.{arith}
 use borrow.Author.Needs.{needs}
 use denote.Ref.{now}
-use lib.ListN.{length}
 use Rattle.lists.proofs.Output.{written}
 use Rattle.methylation_evidence.specs.Counts.{tagCounts, summedCounts}
 use Rattle.duplex_tags.specs.Tags.{countsOf}

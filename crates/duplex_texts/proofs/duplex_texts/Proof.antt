@@ -1,20 +1,14 @@
 -- `duplex_texts::duplex_texts` meets its contract: refused by the sequence and the evidence, or by the room of the outputs
 -- for the texts that are made in buffers, or all is written. Assumes nothing.
 use mathlib.Core.Path.{_≡_, refl, sym, ap, _∙_}
-use mathlib.Core.List.{List}
-use Prim.Native.Nat.{ℕ}
 use native.Mathlib.Omega.{arith}
-use borrow.Author.Needs.{needs}
 use denote.Ref.{now}
 use lib.ListN.{length}
 use Rattle.lists.proofs.Output.{answer-refused, answer-passed}
-use Rattle.refusals.specs.Refusal.{refusal}
 use Rattle.duplex_texts.specs.Texts.{Strand, strand, TextArrays, textArrays, duplexTexts}
 use Rattle.duplex_texts.specs.Outputs.{textLengths, textsRefused, written}
 use Rattle.duplex_texts.specs.Parts.{AsLong, neededFor}
-use Rattle.duplex_texts.specs.declared.DuplexTexts.{DuplexTexts}
 use Rattle.duplex_texts.specs.declared.DuplexTexts.the-variants.{Refused}
-use Rattle.duplex_texts.specs.declared.TextLengths.{TextLengths}
 use Rattle.duplex_texts.proofs.Refused.{as-long, refused-given, refused-room, Room, enough-room}
 use Rattle.duplex_texts.proofs.Leaves.{leaves-refused, leaves-passed}
 use Rattle.duplex_texts.proofs.Made.{buffered, few-bytes, needed, all-put}

@@ -1,5 +1,5 @@
 -- `duplex_texts::make_texts` meets its contract: the sequence is restored, and each strand's texts are made against it. Assumes nothing.
-use mathlib.Core.Path.{_≡_, refl, sym, ap, _∙_}
+use mathlib.Core.Path.{_≡_, sym, ap, _∙_}
 use Prim.Native.Nat.{_-_}
 use borrow.Author.Needs.{needs}
 use denote.Ref.{now}

@@ -1,9 +1,8 @@
 -- `duplex_texts::restore_both` meets its contract: a copy restored by the first strand, and its front by the second. Assumes nothing.
-use mathlib.Core.Path.{_≡_, refl, sym, ap, _∙_}
+use mathlib.Core.Path.{_≡_, sym, ap, _∙_}
 use native.Mathlib.Omega.{arith}
 use borrow.Author.Needs.{needs}
 use denote.Ref.{now}
-use lib.ListN.{length}
 use Rattle.lists.specs.Output.{put}
 use Rattle.lists.proofs.Output.{put-equal, written}
 use Rattle.methylation.specs.Methylation.{isAnnotated}

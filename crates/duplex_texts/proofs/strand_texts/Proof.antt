@@ -1,5 +1,4 @@
 -- `duplex_texts::strand_texts` meets its contract: nothing without an annotation, and the tags with one. Assumes nothing.
-use mathlib.Core.Path.{_≡_, refl, sym, ap, _∙_}
 use borrow.Author.Needs.{needs}
 use denote.Ref.{now}
 use Rattle.duplex_texts.proofs.Texts.{no-texts, some-texts}

@@ -1,14 +1,13 @@
 -- `methylation::is_cpg_context` meets its contract, by the outcome of its tests. Assumes nothing.
-use mathlib.Core.Path.{_≡_, refl, sym, _∙_}
-use mathlib.Core.Bool.{Bool, true, false, cond, _&&_}
+use mathlib.Core.Path.{_≡_, refl}
+use mathlib.Core.Bool.{Bool, true, false, _&&_}
 use mathlib.Core.List.{List}
 use Prim.Native.Nat.{ℕ, _+_, _≤_, _<_}
 use native.Mathlib.Omega.{arith}
 use borrow.Author.Needs.{needs}
 use borrow.Author.Tests.{le-ltb, lt-ltb}
-use lib.Dec.{ltb}
 use lib.ListN.{length}
-use Rattle.methylation.specs.Methylation.{isCg, isCpgContext}
+use Rattle.methylation.specs.Methylation.{isCpgContext}
 use Rattle.methylation.proofs.is_cpg_context.Statement.{statement}
 use Rattle.methylation.proofs.is_cpg_context.Tie as tie
 

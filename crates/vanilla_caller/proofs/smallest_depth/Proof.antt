@@ -1,12 +1,11 @@
 -- `vanilla_caller::smallest_depth` meets its contract: after i turns it has the smallest of the first depth and of the first i. Assumes nothing.
 use Prim.Native.Nat.{_≤_, _-_, min}
 use native.Mathlib.Omega.{arith}
-use mathlib.Core.Path.{_≡_, refl, _∙_}
+use mathlib.Core.Path.{_≡_, _∙_}
 use mathlib.Core.List.{foldl}
 use denote.Ref.{now}
 use lib.ListN.{length, take, getD}
 use Rattle.lists.proofs.Fold.{fold-next, fold-all}
-use Rattle.numbers.specs.Numbers.{smallest}
 use Rattle.vanilla_caller.proofs.smallest_depth.Statement.{statement}
 use Rattle.vanilla_caller.proofs.smallest_depth.Tie as tie
 

@@ -1,5 +1,5 @@
 -- `lists::u8s::part_u8` meets its contract, by the outcome of its test. Assumes nothing.
-use mathlib.Core.Path.{_≡_, sym, _∙_}
+use mathlib.Core.Path.{sym, _∙_}
 use native.Mathlib.Omega.{arith}
 use borrow.Author.Needs.{needs}
 use Rattle.lists.proofs.Part.{stays, part-outside, part-within}
