@@ -24,19 +24,19 @@ broken a b listed run = misfit a || (misfit b || (listed && not (isRun run)))
 
 -- How many positions the bytes are, of each array.
 unfoldable pub numbersIn : StrandBytes → Lengths
-numbersIn s = record {
-  bases = length (s .bases);
-  quals = length (s .quals);
-  depths = length (s .depths) / 2;
-  errors = length (s .errors) / 2;
-  marks = length (s .evidence) / 9;
-  unconverted = length (s .evidence) / 9;
-  converted = length (s .evidence) / 9;
-}
+numbersIn s =
+    let places = length (s .evidence) / 9 in
+    record {
+      bases = length (s .bases);
+      quals = length (s .quals);
+      depths = length (s .depths) / 2;
+      errors = length (s .errors) / 2;
+      evidence = record { marks = places; unconverted = places; converted = places };
+    }
 
 -- Row 7's condition for a strand. An absent one's arrays are not looked at.
 abbrev pub longBytes : StrandBytes → Bool
-longBytes s = long (s .present) (s .annotation) (numbersIn s)
+longBytes s = long (record { present = s .present; annotation = s .annotation; lengths = numbersIn s })
 
 unfoldable pub earlyFaults : StrandBytes → StrandBytes → Bool → List ℕ → List Fault
 earlyFaults a b listed run =

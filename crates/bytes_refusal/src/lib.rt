@@ -9,6 +9,7 @@ ghost use Rattle.strand_bytes.specs.Strand.{strandBytes};
 ghost use Rattle.bytes_refusal.specs.Rows.{misfitCounts, longBytes, earlyFaults};
 use evidence_bytes::POSITION_BYTES;
 use methylation::Annotation;
+use methylation::EvidenceLengths;
 use methylation::is_annotated;
 use read_run::count_reads;
 use refusals::BROKEN;
@@ -52,9 +53,11 @@ fn is_long(
         quals: quals.len(),
         depths: depths.len() / 2,
         errors: errors.len() / 2,
-        marks: places,
-        unconverted: places,
-        converted: places,
+        evidence: EvidenceLengths {
+            marks: places,
+            unconverted: places,
+            converted: places,
+        },
     };
     present & strand_too_long(is_annotated(annotation), positions)
 }

@@ -15,14 +15,16 @@ use Rattle.lists.specs.Part.{onlyIf}
 use Rattle.lists.specs.Table.{tabulate}
 use Rattle.lists.proofs.Output.{answer-refused, answer-passed, after-refused, after-passed, after-none}
 use Rattle.lists.proofs.Table.{length-tabulate}
-use Rattle.refusals.specs.Refusal.{_if_, ragged, refusal}
+use Rattle.refusals.specs.Refusal.{_if_, refusal}
 use Rattle.refusals.proofs.Refusal.{and-then}
-use Rattle.refusals.proofs.Condition.{nor-where, not-ragged}
 use Rattle.byte_numbers.specs.Bytes.{bytesOfAll}
 use Rattle.byte_numbers.specs.Groups.{joined}
 use Rattle.evidence_bytes.specs.Evidence.{evidenceBytes}
+use Rattle.methylation.specs.Arrays.{EvidenceArrays, evidenceArrays, LeavesEvidence}
 use Rattle.methylation.specs.Methylation.{isAnnotated}
-use Rattle.vanilla_caller.specs.Strand.{lengths, evidence, strandRagged}
+use Rattle.methylation.proofs.Arrays.{PutsEvidence}
+use Rattle.vanilla_caller.specs.Strand.{lengths}
+use Rattle.vanilla_caller.proofs.Strand.{even}
 use Rattle.duplex_outputs.specs.Outputs.{RecordArrays, recordOf, recordLengths, recordTooShort, LeavesRecord}
 use Rattle.duplex_outputs.specs.declared.RecordLengths.{RecordLengths}
 use Rattle.duplex_outputs.proofs.Outputs.{PutsRecord}
@@ -38,7 +40,7 @@ use Rattle.strand_bytes.specs.Strand.{StrandBytes, strandOf}
 use Rattle.bytes_refusal.specs.Rows.{broken}
 use Rattle.duplex_bytes.specs.Bytes.{bytesFaults, bytesRefused, inputsRefused, bytesRecord, BytesAs}
 use Rattle.duplex_bytes.proofs.Ample.{zeros-ample, inputs-alone}
-use Rattle.record_bytes.specs.Outputs.{RecordBytes, asArrays, writtenOf, shortFor, outputsRefused, evidencePlaces, fronts, WrittenAs}
+use Rattle.record_bytes.specs.Outputs.{RecordBytes, asArrays, writtenOf, shortFor, outputsRefused, evidencePlaces, evidenceFronts, fronts, WrittenAs}
 use Rattle.record_bytes.specs.declared.Written.{Written}
 use Rattle.consensus_bytes.specs.Consensus.{ConsensusBytesAs}
 
@@ -49,16 +51,20 @@ zeros =
     (replicate 1024 0)
 
 -- How long a record's arrays are.
+record SizedEvidence (n : ℕ) (e : EvidenceArrays) : Type 0 where
+  marks : length (e .marks) ≡ n
+  unconverted : length (e .unconverted) ≡ n
+  converted : length (e .converted) ≡ n
+
 record Sized (w : Written) (r : RecordArrays) : Type 0 where
   bases : length (r .bases) ≡ w .positions
   quals : length (r .quals) ≡ w .positions
   errors : length (r .errors) ≡ w .positions
-  marksA : length (r .marksA) ≡ evidencePlaces (w .first) (w .positions)
-  unconvertedA : length (r .unconvertedA) ≡ evidencePlaces (w .first) (w .positions)
-  convertedA : length (r .convertedA) ≡ evidencePlaces (w .first) (w .positions)
-  marksB : length (r .marksB) ≡ evidencePlaces (w .second) (w .positions)
-  unconvertedB : length (r .unconvertedB) ≡ evidencePlaces (w .second) (w .positions)
-  convertedB : length (r .convertedB) ≡ evidencePlaces (w .second) (w .positions)
+  a : SizedEvidence (evidencePlaces (w .first) (w .positions)) (r .a)
+  b : SizedEvidence (evidencePlaces (w .second) (w .positions)) (r .b)
+
+none-sized : SizedEvidence 0 (evidenceArrays [] [] [])
+none-sized = record { marks = refl; unconverted = refl; converted = refl }
 
 sized-if : (there : Bool) (n : ℕ) (f : ℕ → ℕ) → length (onlyIf there (tabulate n f)) ≡ evidencePlaces there n
 unfolding onlyIf
@@ -71,12 +77,9 @@ errors-sized true counted n f = length-tabulate n counted
 errors-sized false counted n f = length-tabulate n f
 
 -- A strand that row 8 does not refuse has as many qualities and errors as bases.
-even : (s : Strand) → Passes s → (length (s .arrays .quals) ≡ positions s) × (length (s .arrays .errors) ≡ positions s)
-unfolding strandRagged
-even s p =
-    let l = lengths (s .arrays) in
-    let (all, more) = nor-where (ragged (l .bases ∷ l .quals ∷ l .depths ∷ l .errors ∷ [])) (annotated s) (ragged (l .bases ∷ evidence l)) (p .not-uneven) in
-    let same = not-ragged (l .bases) (l .quals ∷ l .depths ∷ l .errors ∷ []) all in
+as-many : (s : Strand) → Passes s → (length (s .arrays .quals) ≡ positions s) × (length (s .arrays .errors) ≡ positions s)
+as-many s p =
+    let same = even (annotated s) (lengths (s .arrays)) (p .not-uneven) .own in
     (same .0, same .1 .1 .0)
 
 module _ (a b : Strand) (listed : Bool) (counted : ℕ → ℕ) (count : ℕ) where
@@ -85,48 +88,44 @@ module _ (a b : Strand) (listed : Bool) (counted : ℕ → ℕ) (count : ℕ) wh
 
   sized : (k : DuplexConsensus) → refusal (strandFaults a b listed count false) ≡ 0 → kindOf a b ≡ k → Sized (writtenOf (annotated a) (annotated b) k) (made-of k)
   unfolding combinedBases combinedQuals combinedErrors estimates keptMarks keptUnconverted keptConverted marksGated unconvertedGated convertedGated
-  sized (Refused m) z e = record { bases = refl; quals = refl; errors = refl; marksA = refl; unconvertedA = refl; convertedA = refl; marksB = refl; unconvertedB = refl; convertedB = refl }
-  sized NoRecord z e = record { bases = refl; quals = refl; errors = refl; marksA = refl; unconvertedA = refl; convertedA = refl; marksB = refl; unconvertedB = refl; convertedB = refl }
+  sized (Refused m) z e = record { bases = refl; quals = refl; errors = refl; a = none-sized; b = none-sized }
+  sized NoRecord z e = record { bases = refl; quals = refl; errors = refl; a = none-sized; b = none-sized }
   sized (Ab m) z e =
-      let (_, k, p) = is-ab a b listed count false (sym (taken a b listed count false (sym z) refl) ∙ e) in
+      let (_, k, p) = is-ab a b listed count false (sym (taken a b listed count false z) ∙ e) in
       let size : positions a ≡ m = cc in
-      let (quals, errors) = even a p in
+      let (quals, errors) = as-many a p in
       record {
         bases = size;
         quals = quals ∙ size;
         errors = errors ∙ size;
-        marksA = sized-if (annotated a) (positions a) _ ∙ ap (evidencePlaces (annotated a)) size;
-        unconvertedA = sized-if (annotated a) (positions a) _ ∙ ap (evidencePlaces (annotated a)) size;
-        convertedA = sized-if (annotated a) (positions a) _ ∙ ap (evidencePlaces (annotated a)) size;
-        marksB = refl;
-        unconvertedB = refl;
-        convertedB = refl;
+        a = record {
+          marks = sized-if (annotated a) (positions a) _ ∙ ap (evidencePlaces (annotated a)) size;
+          unconverted = sized-if (annotated a) (positions a) _ ∙ ap (evidencePlaces (annotated a)) size;
+          converted = sized-if (annotated a) (positions a) _ ∙ ap (evidencePlaces (annotated a)) size;
+        };
+        b = none-sized;
       }
   sized (Ba m) z e =
-      let (_, k, p) = is-ba a b listed count false (sym (taken a b listed count false (sym z) refl) ∙ e) in
+      let (_, k, p) = is-ba a b listed count false (sym (taken a b listed count false z) ∙ e) in
       let size : positions b ≡ m = cc in
-      let (quals, errors) = even b p in
+      let (quals, errors) = as-many b p in
       record {
         bases = size;
         quals = quals ∙ size;
         errors = errors ∙ size;
-        marksA = sized-if (annotated b) (positions b) _ ∙ ap (evidencePlaces (annotated b)) size;
-        unconvertedA = sized-if (annotated b) (positions b) _ ∙ ap (evidencePlaces (annotated b)) size;
-        convertedA = sized-if (annotated b) (positions b) _ ∙ ap (evidencePlaces (annotated b)) size;
-        marksB = refl;
-        unconvertedB = refl;
-        convertedB = refl;
+        a = record {
+          marks = sized-if (annotated b) (positions b) _ ∙ ap (evidencePlaces (annotated b)) size;
+          unconverted = sized-if (annotated b) (positions b) _ ∙ ap (evidencePlaces (annotated b)) size;
+          converted = sized-if (annotated b) (positions b) _ ∙ ap (evidencePlaces (annotated b)) size;
+        };
+        b = none-sized;
       }
   sized (Both m) z e = record {
     bases = length-tabulate m _;
     quals = length-tabulate m _;
     errors = errors-sized listed counted m _;
-    marksA = sized-if (annotated a) m _;
-    unconvertedA = sized-if (annotated a) m _;
-    convertedA = sized-if (annotated a) m _;
-    marksB = sized-if (annotated b) m _;
-    unconvertedB = sized-if (annotated b) m _;
-    convertedB = sized-if (annotated b) m _;
+    a = record { marks = sized-if (annotated a) m _; unconverted = sized-if (annotated a) m _; converted = sized-if (annotated a) m _ };
+    b = record { marks = sized-if (annotated b) m _; unconverted = sized-if (annotated b) m _; converted = sized-if (annotated b) m _ };
   }
 
 -- What was written to the front of an array is read there.
@@ -134,31 +133,37 @@ front : {n : ℕ} (xs out : List ℕ) {ys : List ℕ} → length xs ≡ n → ys
 unfolding put
 front xs out e f = rw (f, ← e) (take-append-seam xs (drop (length xs) out))
 
+same-evidence : (n : ℕ) (e before now : EvidenceArrays) → SizedEvidence n e → PutsEvidence e before now → evidenceFronts n now ≡ e
+same-evidence n e before now s p =
+    let m = front (e .marks) (before .marks) (s .marks) (p .marks) in
+    let u = front (e .unconverted) (before .unconverted) (s .unconverted) (p .unconverted) in
+    let c = front (e .converted) (before .converted) (s .converted) (p .converted) in
+    rw (m, u, c)
+
 same-fronts : (w : Written) (r before now : RecordArrays) → Sized w r → PutsRecord r before now → fronts w now ≡ r
 same-fronts w r before now s p =
     let b = front (r .bases) (before .bases) (s .bases) (p .bases) in
     let q = front (r .quals) (before .quals) (s .quals) (p .quals) in
     let e = front (r .errors) (before .errors) (s .errors) (p .errors) in
-    let ma = front (r .marksA) (before .marksA) (s .marksA) (p .marksA) in
-    let ua = front (r .unconvertedA) (before .unconvertedA) (s .unconvertedA) (p .unconvertedA) in
-    let ca = front (r .convertedA) (before .convertedA) (s .convertedA) (p .convertedA) in
-    let mb = front (r .marksB) (before .marksB) (s .marksB) (p .marksB) in
-    let ub = front (r .unconvertedB) (before .unconvertedB) (s .unconvertedB) (p .unconvertedB) in
-    let cb = front (r .convertedB) (before .convertedB) (s .convertedB) (p .convertedB) in
-    rw (b, q, e, ma, ua, ca, mb, ub, cb)
+    let of-a = same-evidence _ (r .a) (before .a) (now .a) (s .a) (p .a) in
+    let of-b = same-evidence _ (r .b) (before .b) (now .b) (s .b) (p .b) in
+    rw (b, q, e, of-a, of-b)
 
 -- A call that was not refused leaves its arrays.
+puts-evidence : {number : ℕ} {written before now : EvidenceArrays} → 0 ≡ number → LeavesEvidence number written before now → PutsEvidence written before now
+puts-evidence e l = record {
+  marks = l .marks ∙ sym (after-passed _ _ e refl);
+  unconverted = l .unconverted ∙ sym (after-passed _ _ e refl);
+  converted = l .converted ∙ sym (after-passed _ _ e refl);
+}
+
 puts : {number : ℕ} {written before now : RecordArrays} → 0 ≡ number → LeavesRecord number written before now → PutsRecord written before now
 puts e l = record {
   bases = l .bases ∙ sym (after-passed _ _ e refl);
   quals = l .quals ∙ sym (after-passed _ _ e refl);
   errors = l .errors ∙ sym (after-passed _ _ e refl);
-  marksA = l .marksA ∙ sym (after-passed _ _ e refl);
-  unconvertedA = l .unconvertedA ∙ sym (after-passed _ _ e refl);
-  convertedA = l .convertedA ∙ sym (after-passed _ _ e refl);
-  marksB = l .marksB ∙ sym (after-passed _ _ e refl);
-  unconvertedB = l .unconvertedB ∙ sym (after-passed _ _ e refl);
-  convertedB = l .convertedB ∙ sym (after-passed _ _ e refl);
+  a = puts-evidence e (l .a);
+  b = puts-evidence e (l .b);
 }
 
 -- Where nothing is written, nothing is too short.

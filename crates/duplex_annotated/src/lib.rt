@@ -1,7 +1,7 @@
 // Two strands that may be annotated, combined position by position, from duplex_caller.rs (combine_strands). Uses methylation,
 // vanilla_caller, duplex_molecule, duplex_arrays, duplex_evidence, duplex_outputs and duplex_strands.
 ghost use mathlib.Core.Path.{_≡_};
-ghost use Rattle.vanilla_caller.specs.Strand.{arrays, lengths};
+ghost use Rattle.vanilla_caller.specs.Strand.{arrays};
 ghost use Rattle.duplex_molecule.specs.Molecule.{ctInput};
 ghost use Rattle.duplex_outputs.specs.Outputs.{recordOf};
 ghost use Rattle.duplex_strands.specs.Combine.{CombinedAs};
@@ -14,29 +14,8 @@ use duplex_strands::Combined;
 use duplex_strands::combine_refusal;
 use duplex_strands::common_length;
 use methylation::Annotation;
-use vanilla_caller::Lengths;
-
-fn strand_lengths(
-    bases: &[u8],
-    quals: &[u8],
-    depths: &[u16],
-    errors: &[u16],
-    marks: &[u8],
-    unconverted: &[u32],
-    converted: &[u32],
-) -> Lengths
-    ensures { λ r. ⌜ r ≡ lengths (arrays (now (bases .entry)) (now (quals .entry)) (now (depths .entry)) (now (errors .entry)) (now (marks .entry)) (now (unconverted .entry)) (now (converted .entry))) ⌝ }
-{
-    Lengths {
-        bases: bases.len(),
-        quals: quals.len(),
-        depths: depths.len(),
-        errors: errors.len(),
-        marks: marks.len(),
-        unconverted: unconverted.len(),
-        converted: converted.len(),
-    }
-}
+use methylation::EvidenceLengths;
+use vanilla_caller::lengths_of;
 
 // Combines strands that may be annotated. Evidence is written of annotated strands only. Refuses by 7, 8, 12.
 pub fn combine_strands_annotated(
@@ -76,7 +55,7 @@ pub fn combine_strands_annotated(
         (recordOf (now («bases_out» .exit)) (now («quals_out» .exit)) (now («errors_out» .exit)) (now («a_marks_out» .exit)) (now («a_unconverted_out» .exit)) (now («a_converted_out» .exit)) (now («b_marks_out» .exit)) (now («b_unconverted_out» .exit)) (now («b_converted_out» .exit)))
         r ⌝ }
 {
-    let a = strand_lengths(
+    let a = lengths_of(
         a_bases,
         a_quals,
         a_depths,
@@ -85,7 +64,7 @@ pub fn combine_strands_annotated(
         a_unconverted,
         a_converted,
     );
-    let b = strand_lengths(
+    let b = lengths_of(
         b_bases,
         b_quals,
         b_depths,
@@ -98,12 +77,16 @@ pub fn combine_strands_annotated(
         bases: bases_out.len(),
         quals: quals_out.len(),
         errors: errors_out.len(),
-        marksA: a_marks_out.len(),
-        unconvertedA: a_unconverted_out.len(),
-        convertedA: a_converted_out.len(),
-        marksB: b_marks_out.len(),
-        unconvertedB: b_unconverted_out.len(),
-        convertedB: b_converted_out.len(),
+        a: EvidenceLengths {
+            marks: a_marks_out.len(),
+            unconverted: a_unconverted_out.len(),
+            converted: a_converted_out.len(),
+        },
+        b: EvidenceLengths {
+            marks: b_marks_out.len(),
+            unconverted: b_unconverted_out.len(),
+            converted: b_converted_out.len(),
+        },
     };
     let number = combine_refusal(a_annotation, a, b_annotation, b, out);
     if number != 0 {

@@ -16,8 +16,8 @@ use Rattle.duplex_call.specs.Annotated.{combined, estimated}
 -- Base and quality at position i of strands A and B.
 abbrev pub positionOf : CtInput → Arrays → Arrays → ℕ → Position
 positionOf ct a b i =
-    combined ct (getD (a .bases) i 0) (getD (a .quals) i 0) (getD (a .marks) i 0)
-    (getD (b .bases) i 0) (getD (b .quals) i 0) (getD (b .marks) i 0)
+    combined ct (getD (a .bases) i 0) (getD (a .quals) i 0) (getD (a .evidence .marks) i 0)
+    (getD (b .bases) i 0) (getD (b .quals) i 0) (getD (b .evidence .marks) i 0)
 
 -- The errors' estimate there.
 abbrev pub estimateOf : CtInput → Arrays → Arrays → ℕ → ℕ
@@ -55,7 +55,7 @@ module _ {A : Type 0} where
 -- What is too short for base and quality of n positions, and for their errors.
 abbrev pub positionsShort : ℕ → CtInput → Arrays → Arrays → List ℕ → List ℕ → Bool
 positionsShort n ct a b bases quals =
-    arraysShort n (canCall ct) (length (a .marks) ∷ length (b .marks) ∷ [])
+    arraysShort n (canCall ct) (length (a .evidence .marks) ∷ length (b .evidence .marks) ∷ [])
     (length (a .bases) ∷ length (a .quals) ∷ length (b .bases) ∷ length (b .quals) ∷ length bases ∷ length quals ∷ [])
 
 abbrev pub errorsShort : ℕ → Arrays → Arrays → List ℕ → Bool

@@ -11,9 +11,10 @@ use borrow.Author.Tests.{le-ltb}
 use lib.ListN.{length, take, replicate, length-replicate}
 use Rattle.refusals.specs.Refusal.{tooMany, refusal}
 use Rattle.refusals.proofs.Condition.{nor-where, both-hold}
+use Rattle.methylation.specs.Arrays.{EvidenceArrays, evidenceArrays, evidenceLengths, evidenceTooShort}
 use Rattle.vanilla_caller.specs.Strand.{lengths}
 use Rattle.duplex_outputs.specs.Outputs.{RecordArrays, recordOf, recordLengths, recordTooShort}
-use Rattle.duplex_kind.specs.Kind.{Strand, annotated, positions, shorterPresent, recordLength, someDepth, covered, kindBy, kindOf, long, uneven, givenFaults}
+use Rattle.duplex_kind.specs.Kind.{Strand, given, annotated, positions, shorterPresent, recordLength, someDepth, covered, kindBy, kindOf, long, uneven, givenFaults}
 use Rattle.duplex_kind.specs.declared.DuplexConsensus.the-variants.{NoRecord, Ab, Ba, Both}
 use Rattle.duplex_record.specs.Record.{outputsShort, duplexFaults}
 use Rattle.read_run.specs.Run.{readsOf}
@@ -22,16 +23,17 @@ use Rattle.bytes_refusal.specs.Rows.{broken}
 use Rattle.duplex_bytes.specs.Bytes.{bytesFaults, bytesRefused, inputsRefused}
 use Rattle.duplex_bytes.proofs.Few.{not-long}
 
+pub record AmpleEvidence (out : EvidenceArrays) : Type 0 where
+  pub marks : 1024 ≤ length (out .marks)
+  pub unconverted : 1024 ≤ length (out .unconverted)
+  pub converted : 1024 ≤ length (out .converted)
+
 pub record Ample (out : RecordArrays) : Type 0 where
   pub bases : 1024 ≤ length (out .bases)
   pub quals : 1024 ≤ length (out .quals)
   pub errors : 1024 ≤ length (out .errors)
-  pub marksA : 1024 ≤ length (out .marksA)
-  pub unconvertedA : 1024 ≤ length (out .unconvertedA)
-  pub convertedA : 1024 ≤ length (out .convertedA)
-  pub marksB : 1024 ≤ length (out .marksB)
-  pub unconvertedB : 1024 ≤ length (out .unconvertedB)
-  pub convertedB : 1024 ≤ length (out .convertedB)
+  pub a : AmpleEvidence (out .a)
+  pub b : AmpleEvidence (out .b)
 
 abbrev zeros : List ℕ
 zeros = replicate 1024 0
@@ -39,14 +41,22 @@ zeros = replicate 1024 0
 pub zeros-ample : Ample (recordOf zeros zeros zeros zeros zeros zeros zeros zeros zeros)
 zeros-ample =
     let h : 1024 ≤ length zeros = omega (arith, length-replicate {A = ℕ} 1024 0) in
-    record { bases = h; quals = h; errors = h; marksA = h; unconvertedA = h; convertedA = h; marksB = h; unconvertedB = h; convertedB = h }
+    let evidence : AmpleEvidence (evidenceArrays zeros zeros zeros) = record { marks = h; unconverted = h; converted = h } in
+    record { bases = h; quals = h; errors = h; a = evidence; b = evidence }
+
+-- Row 12 does not refuse the outputs of a strand's evidence.
+evidence-holds : {out : EvidenceArrays} → AmpleEvidence out → (n : ℕ) → n ≤ 1024 → evidenceTooShort n (evidenceLengths out) ≡ false
+unfolding evidenceTooShort
+evidence-holds {out} room n h =
+    rw
+    (le-ltb (length (out .marks)) n (omega (arith, room .marks)), le-ltb (length (out .unconverted)) n (omega (arith, room .unconverted)), le-ltb (length (out .converted)) n (omega (arith, room .converted)))
 
 module _ (out : RecordArrays) (room : Ample out) where
   holds : (n : ℕ) (p q : Bool) → n ≤ 1024 → recordTooShort n p q (recordLengths out) ≡ false
   unfolding recordTooShort
   holds n p q h =
       rw
-      (le-ltb (length (out .bases)) n (omega (arith, room .bases)), le-ltb (length (out .quals)) n (omega (arith, room .quals)), le-ltb (length (out .errors)) n (omega (arith, room .errors)), le-ltb (length (out .marksA)) n (omega (arith, room .marksA)), le-ltb (length (out .unconvertedA)) n (omega (arith, room .unconvertedA)), le-ltb (length (out .convertedA)) n (omega (arith, room .convertedA)), le-ltb (length (out .marksB)) n (omega (arith, room .marksB)), le-ltb (length (out .unconvertedB)) n (omega (arith, room .unconvertedB)), le-ltb (length (out .convertedB)) n (omega (arith, room .convertedB)))
+      (le-ltb (length (out .bases)) n (omega (arith, room .bases)), le-ltb (length (out .quals)) n (omega (arith, room .quals)), le-ltb (length (out .errors)) n (omega (arith, room .errors)), evidence-holds (room .a) n h, evidence-holds (room .b) n h)
       (none p q)
     where
       none : (p q : Bool) → ((p && false) || (q && false)) ≡ false
@@ -68,15 +78,15 @@ module _ (out : RecordArrays) (room : Ample out) where
     by-kind false false n f g h = refl
 
     -- A strand that counts is present, and of at most 1,024 positions where it is not long.
-    few : (s : Strand) → long (s .present) (s .annotation) (lengths (s .arrays)) ≡ false → covered (recordLength a b) s ≡ true → positions s ≤ 1024
+    few : (s : Strand) → long (given s) ≡ false → covered (recordLength a b) s ≡ true → positions s ≤ 1024
     few s h in-s =
         let there : s .present ≡ true = both-hold (s .present) (someDepth (take (recordLength a b) (s .arrays .depths))) in-s .0 in
         not-long (annotated s) (lengths (s .arrays)) (rw there at h) .0 .0
 
-    none-short : (long (a .present) (a .annotation) (lengths (a .arrays)) || long (b .present) (b .annotation) (lengths (b .arrays))) ≡ false → outputsShort a b out (kindOf a b) ≡ false
+    none-short : (long (given a) || long (given b)) ≡ false → outputsShort a b out (kindOf a b) ≡ false
     unfolding kindBy shorterPresent
     none-short h =
-        let (few-a, few-b) = nor-where (long (a .present) (a .annotation) (lengths (a .arrays))) true (long (b .present) (b .annotation) (lengths (b .arrays))) h in
+        let (few-a, few-b) = nor-where (long (given a)) true (long (given b)) h in
         by-kind (covered (recordLength a b) a) (covered (recordLength a b) b) (recordLength a b) (few a few-a) (few b (few-b refl))
         (λ in-a in-b.
         let there-a : a .present ≡ true = both-hold (a .present) (someDepth (take (recordLength a b) (a .arrays .depths))) in-a .0 in
@@ -100,8 +110,8 @@ unfolding bytesFaults inputsRefused duplexFaults givenFaults refusal
 inputs-alone a b listed run out room =
     let A = strandOf a in
     let B = strandOf b in
-    last (broken a b listed run) (long (A .present) (A .annotation) (lengths (A .arrays)) || long (B .present) (B .annotation) (lengths (B .arrays)))
-    (uneven (A .present) (A .annotation) (lengths (A .arrays)) || uneven (B .present) (B .annotation) (lengths (B .arrays)))
+    last (broken a b listed run) (long (given A) || long (given B))
+    (uneven (given A) || uneven (given B))
     (listed && tooMany (length (readsOf run) ∷ []))
     (listed && false)
     (outputsShort A B out (kindOf A B))

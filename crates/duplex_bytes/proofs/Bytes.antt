@@ -17,7 +17,7 @@ use Rattle.refusals.proofs.Refusal.{passed}
 use Rattle.refusals.proofs.Condition.{nor-where}
 use Rattle.methylation.specs.Methylation.{isAnnotated}
 use Rattle.methylation.specs.declared.Annotation.{Annotation}
-use Rattle.vanilla_caller.specs.Strand.{lengths, strandTooLong}
+use Rattle.vanilla_caller.specs.Strand.{strandTooLong}
 use Rattle.vanilla_caller.specs.declared.Lengths.{Lengths}
 use Rattle.byte_numbers.specs.Bytes.{numberOf}
 use Rattle.byte_numbers.proofs.Groups.{length-by-group}
@@ -25,7 +25,7 @@ use Rattle.evidence_bytes.specs.Evidence.{markIn, countIn}
 use Rattle.molecule_fields.specs.Widths.{isRun}
 use Rattle.duplex_outputs.specs.Outputs.{RecordArrays}
 use Rattle.duplex_outputs.proofs.Outputs.{record-refused}
-use Rattle.duplex_kind.specs.Kind.{Strand, kindOf, long, givenFaults}
+use Rattle.duplex_kind.specs.Kind.{Strand, given, kindOf, long, givenFaults}
 use Rattle.duplex_kind.specs.declared.DuplexConsensus.{DuplexConsensus}
 use Rattle.duplex_kind.specs.declared.DuplexConsensus.the-variants.{Refused}
 use Rattle.duplex_record.specs.Record.{duplexFaults}
@@ -47,7 +47,7 @@ pub same-seen :
 same-seen present annotation bases quals depths errors evidence sb sq sd se sv = rw (sb, sq, sd, se, sv)
 
 -- Row 7 counts the numbers that the bytes are.
-same-long : (s : StrandBytes) → long (strandOf s .present) (strandOf s .annotation) (lengths (strandOf s .arrays)) ≡ longBytes s
+same-long : (s : StrandBytes) → long (given (strandOf s)) ≡ longBytes s
 unfolding strandOf numbersIn
 same-long s =
     rw
@@ -69,9 +69,11 @@ looked present annotated bases quals depths errors evidence = record {
   quals = quals;
   depths = length (onlyIf present depths) / 2;
   errors = length (onlyIf present errors) / 2;
-  marks = length (onlyIf (present && annotated) evidence) / 9;
-  unconverted = length (onlyIf (present && annotated) evidence) / 9;
-  converted = length (onlyIf (present && annotated) evidence) / 9;
+  evidence = record {
+    marks = length (onlyIf (present && annotated) evidence) / 9;
+    unconverted = length (onlyIf (present && annotated) evidence) / 9;
+    converted = length (onlyIf (present && annotated) evidence) / 9;
+  };
 }
 
 few :

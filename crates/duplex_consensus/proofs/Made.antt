@@ -16,14 +16,15 @@ use Rattle.lists.specs.Output.{unless, answer, put, after}
 use Rattle.lists.specs.Table.{tabulate}
 use Rattle.lists.proofs.Output.{put-equal}
 use Rattle.lists.proofs.Table.{tabulate-equal}
-use Rattle.refusals.specs.Refusal.{Fault, _if_, ragged, tooShort, refusal}
-use Rattle.refusals.proofs.Condition.{nor-where, not-ragged, not-too-short}
+use Rattle.refusals.specs.Refusal.{Fault, _if_, refusal}
 use Rattle.refusals.proofs.Refusal.{and-then, passed}
 use Rattle.caller.specs.Short.{short}
-use Rattle.vanilla_caller.specs.Strand.{lengths, four, evidence, strandRagged}
+use Rattle.vanilla_caller.specs.Strand.{lengths}
+use Rattle.vanilla_caller.proofs.Strand.{even}
 use Rattle.duplex_molecule.specs.Molecule.{ctInput}
 use Rattle.duplex_molecule.specs.declared.CtInput.{CtInput}
-use Rattle.duplex_outputs.specs.Outputs.{RecordArrays, recordOf, recordLengths, recordTooShort, LeavesRecord}
+use Rattle.duplex_outputs.specs.Outputs.{RecordArrays, recordLengths, recordTooShort, LeavesRecord}
+use Rattle.duplex_outputs.proofs.Outputs.{roomy}
 use Rattle.duplex_strands.specs.Combine.{uncounted, combinedErrors}
 use Rattle.duplex_kind.specs.Kind.{Strand, annotated, positions, kindOf, givenFaults, strandFaults}
 use Rattle.duplex_kind.specs.declared.DuplexConsensus.{DuplexConsensus}
@@ -45,12 +46,8 @@ none-first first others z = go (eqb first 0) refl z
     go false e z = z
 
 -- A strand that passes row 8 has as many qualities as bases.
-even : (s : Strand) → Passes s → length (s .arrays .quals) ≡ positions s
-unfolding strandRagged
-even s p =
-    let l = lengths (s .arrays) in
-    let same = nor-where (ragged (four l)) (annotated s) (ragged (l .bases ∷ evidence l)) (p .not-uneven) .0 in
-    not-ragged (l .bases) (l .quals ∷ l .depths ∷ l .errors ∷ []) same .0
+as-many : (s : Strand) → Passes s → length (s .arrays .quals) ≡ positions s
+as-many s p = even (annotated s) (lengths (s .arrays)) (p .not-uneven) .own .0
 
 module _ (a b : Strand) (reads : List SourceRead) (bytes : List ℕ) (before : RecordArrays) where
   abbrev outside : Bool
@@ -80,11 +77,10 @@ module _ (a b : Strand) (reads : List SourceRead) (bytes : List ℕ) (before : R
     few = ltb-false 1024 (length reads) (passed 9 faults tt tt refl z .0)
 
     room : n ≤ length (before .errors)
-    unfolding duplexFaults givenFaults recordTooShort
+    unfolding duplexFaults givenFaults
     room =
         let enough : recordTooShort n (annotated a) (annotated b) (recordLengths before) ≡ false = ap (outputsShort a b before) (sym k) ∙ passed 12 faults tt tt refl z .0 in
-        let own = length (before .bases) ∷ length (before .quals) ∷ length (before .errors) ∷ [] in
-        not-too-short n own (nor-where (tooShort n own) true _ enough .0) .1 .1 .0
+        roomy n (annotated a) (annotated b) (recordLengths before) enough .own .1 .1 .0
 
     -- Both strands are there and even, and the record is as long as the shorter.
     reach : Reach reads bytes ct (a .arrays .bases) (a .arrays .quals) (b .arrays .bases) (b .arrays .quals) n (before .errors)
@@ -92,13 +88,13 @@ module _ (a b : Strand) (reads : List SourceRead) (bytes : List ℕ) (before : R
     reach =
         let given = strandFaults a b true (length reads) outside in
         let none : refusal given ≡ 0 = none-first (refusal given) _ (sym (and-then given ((12 if outputsShort a b before (kindOf a b)) ∷ []) refl tt) ∙ z) in
-        let (_, kind, passes-a, passes-b) = is-both a b true (length reads) outside (sym (taken a b true (length reads) outside refl none) ∙ k) in
+        let (_, kind, passes-a, passes-b) = is-both a b true (length reads) outside (sym (taken a b true (length reads) outside none) ∙ k) in
         let shorter : n ≡ min (positions a) (positions b) = cc in
         record {
           a = omega arith;
-          qa = omega (arith, even a passes-a);
+          qa = omega (arith, as-many a passes-a);
           b = omega arith;
-          qb = omega (arith, even b passes-b);
+          qb = omega (arith, as-many b passes-b);
           own = room;
         }
 
@@ -139,7 +135,7 @@ module _ (a b : Strand) (reads : List SourceRead) (bytes : List ℕ) (before : R
 
 -- All but the errors is what it was, whatever is counted.
 abbrev pub with-errors : List ℕ → RecordArrays → RecordArrays
-with-errors us r = recordOf (r .bases) (r .quals) us (r .marksA) (r .unconvertedA) (r .convertedA) (r .marksB) (r .unconvertedB) (r .convertedB)
+with-errors us r = record { bases = r .bases; quals = r .quals; errors = us; a = r .a; b = r .b }
 
 only-errors : (a b : Strand) (listed : Bool) (f g : ℕ → ℕ) (kind : DuplexConsensus) → with-errors (recordArrays a b listed g kind .errors) (recordArrays a b listed f kind) ≡ recordArrays a b listed g kind
 only-errors a b listed f g (Refused number) = refl
@@ -156,12 +152,8 @@ leaves-errors number w l e = record {
   bases = l .bases;
   quals = l .quals;
   errors = e;
-  marksA = l .marksA;
-  unconvertedA = l .unconvertedA;
-  convertedA = l .convertedA;
-  marksB = l .marksB;
-  unconvertedB = l .unconvertedB;
-  convertedB = l .convertedB;
+  a = l .a;
+  b = l .b;
 }
 
 pub counted-as :

@@ -24,7 +24,7 @@ callOf ct a b i = callAt ct (getD (a .bases) i 0) (getD (b .bases) i 0)
 -- The evidence there of a strand s of this annotation: kept where it is the informative one of a call, clear where not.
 abbrev pub evidenceOf : CtInput → Arrays → Arrays → Annotation → Arrays → ℕ → Evidence
 evidenceOf ct a b annotation s i =
-    evidenceIf (isCallOf annotation (callOf ct a b i)) (getD (s .unconverted) i 0) (getD (s .converted) i 0)
+    evidenceIf (isCallOf annotation (callOf ct a b i)) (getD (s .evidence .unconverted) i 0) (getD (s .evidence .converted) i 0)
 
 -- The first n positions. Without an annotation there is none.
 unfoldable pub keptMarks : ℕ → CtInput → Arrays → Arrays → Annotation → Arrays → List ℕ
@@ -40,7 +40,7 @@ keptConverted n ct a b annotation s = onlyIf (isAnnotated annotation) (tabulate 
 abbrev pub evidenceShort : ℕ → Arrays → Arrays → Arrays → List ℕ → List ℕ → List ℕ → Bool
 evidenceShort n a b s marks unconverted converted =
     arraysShort n false []
-    (length (a .bases) ∷ length (b .bases) ∷ length (s .unconverted) ∷ length (s .converted)
+    (length (a .bases) ∷ length (b .bases) ∷ length (s .evidence .unconverted) ∷ length (s .evidence .converted)
     ∷ length marks ∷ length unconverted ∷ length converted ∷ [])
 
 -- What a call leaves in its outputs.

@@ -1,5 +1,5 @@
 -- What a record's kind says of what was given.
---     turned, taken             the answer of `record_kind`, by the number that its code has
+--     taken                     the answer of `record_kind` where no row refuses
 --     is-refused, is-none       what such an answer says: the number, or that there is none and the kind
 --     is-ab, is-ba, is-both     the same with the record's length, and that the strands that count pass rows 7 and 8
 -- Assumes nothing.
@@ -8,12 +8,12 @@ use mathlib.Core.Bool.{Bool, true, false, cond, _&&_, true≢false}
 use Prim.Native.Nat.{ℕ, zero, suc, min}
 use native.Mathlib.Omega.{arith}
 use Rattle.lists.specs.Output.{unless, answer}
-use Rattle.lists.proofs.Output.{answer-refused, answer-passed}
+use Rattle.lists.proofs.Output.{answer-passed}
 use Rattle.refusals.specs.Refusal.{refusal}
 use Rattle.refusals.proofs.Condition.{both-hold, neither}
 use Rattle.refusals.proofs.Refusal.{passed}
 use Rattle.vanilla_caller.specs.Strand.{lengths, strandTooLong, strandRagged}
-use Rattle.duplex_kind.specs.Kind.{Strand, annotated, positions, shorterPresent, recordLength, covered, kindBy, kindOf, long, uneven, givenFaults, strandFaults, recordKind}
+use Rattle.duplex_kind.specs.Kind.{Strand, given, annotated, positions, shorterPresent, recordLength, covered, kindBy, kindOf, long, uneven, givenFaults, strandFaults, kindGiven, recordKind}
 use Rattle.duplex_kind.specs.declared.DuplexConsensus.{DuplexConsensus}
 use Rattle.duplex_kind.specs.declared.DuplexConsensus.the-variants.{Refused, NoRecord, Ab, Ba, Both}
 
@@ -82,46 +82,42 @@ module _ (a b : Strand) where
     abbrev pub refused-given : ℕ
     refused-given = refusal (strandFaults a b listed count leaving)
 
-    -- What the code answers.
-    pub turned : {n : ℕ} → n ≡ refused-given → (n ≡ 0 → ⊥) → Refused n ≡ recordKind a b listed count leaving
-    unfolding recordKind
-    turned e h = answer-refused Refused _ e h
-
-    pub taken : {n : ℕ} → n ≡ refused-given → n ≡ 0 → kindOf a b ≡ recordKind a b listed count leaving
-    unfolding recordKind
-    taken e z = answer-passed Refused _ e z
+    -- What the code answers where no row refuses.
+    pub taken : refused-given ≡ 0 → kindOf a b ≡ recordKind a b listed count leaving
+    unfolding kindGiven
+    taken z = answer-passed Refused _ refl z
 
     strands-pass : refused-given ≡ 0 → (a .present ≡ true → Passes a) × (b .present ≡ true → Passes b)
     unfolding givenFaults
     strands-pass z =
         let faults = strandFaults a b listed count leaving in
-        let (long-a, long-b) = neither (long (a .present) (a .annotation) (lengths (a .arrays))) (long (b .present) (b .annotation) (lengths (b .arrays))) (passed 7 faults tt tt refl z .0) in
-        let (uneven-a, uneven-b) = neither (uneven (a .present) (a .annotation) (lengths (a .arrays))) (uneven (b .present) (b .annotation) (lengths (b .arrays))) (passed 8 faults tt tt refl z .0) in (
+        let (long-a, long-b) = neither (long (given a)) (long (given b)) (passed 7 faults tt tt refl z .0) in
+        let (uneven-a, uneven-b) = neither (uneven (given a)) (uneven (given b)) (passed 8 faults tt tt refl z .0) in (
           λ h. record { not-long = where-present (a .present) _ long-a h; not-uneven = where-present (a .present) _ uneven-a h },
           λ h. record { not-long = where-present (b .present) _ long-b h; not-uneven = where-present (b .present) _ uneven-b h },
         )
 
     module _ {m : ℕ} where
       pub is-refused : recordKind a b listed count leaving ≡ Refused m → (refused-given ≡ m) × (m ≡ 0 → ⊥)
-      unfolding recordKind
+      unfolding kindGiven
       is-refused e = turned-down refused-given (kindOf a b) e (λ k. of-kind k)
 
       pub is-ab : recordKind a b listed count leaving ≡ Ab m → (refused-given ≡ 0) × (kindOf a b ≡ Ab (positions a)) × Passes a
-      unfolding recordKind
+      unfolding kindGiven
       is-ab e =
           let (z, k) = opened refused-given (kindOf a b) e tt in
           let (here, length) = of-kind k in
           (z, rw length at k, strands-pass z .0 (there a here))
 
       pub is-ba : recordKind a b listed count leaving ≡ Ba m → (refused-given ≡ 0) × (kindOf a b ≡ Ba (positions b)) × Passes b
-      unfolding recordKind
+      unfolding kindGiven
       is-ba e =
           let (z, k) = opened refused-given (kindOf a b) e tt in
           let (here, length) = of-kind k in
           (z, rw length at k, strands-pass z .1 (there b here))
 
       pub is-both : recordKind a b listed count leaving ≡ Both m → (refused-given ≡ 0) × (kindOf a b ≡ Both (min (positions a) (positions b))) × Passes a × Passes b
-      unfolding recordKind shorterPresent
+      unfolding kindGiven shorterPresent
       is-both e =
           let (z, k) = opened refused-given (kindOf a b) e tt in
           let (here, other, length) = of-kind k in
@@ -131,5 +127,5 @@ module _ (a b : Strand) where
           (z, rw (length, shorter) at k, strands-pass z .0 in-a, strands-pass z .1 in-b)
 
     pub is-none : recordKind a b listed count leaving ≡ NoRecord → (refused-given ≡ 0) × (kindOf a b ≡ NoRecord)
-    unfolding recordKind
+    unfolding kindGiven
     is-none e = opened refused-given (kindOf a b) e tt

@@ -2,8 +2,7 @@
 // length. Uses lists, refusals, methylation and vanilla_caller.
 ghost use mathlib.Core.Path.{_≡_};
 ghost use Rattle.refusals.specs.Refusal.{refusal};
-ghost use Rattle.vanilla_caller.specs.Strand.{arrays, lengths};
-ghost use Rattle.duplex_kind.specs.Kind.{strand, shorterPresent, counts, kindBy, long, uneven, givenFaults, recordKind};
+ghost use Rattle.duplex_kind.specs.Kind.{shorterPresent, counts, kindBy, long, uneven, givenFaults, kindGiven};
 use lists::smaller;
 use methylation::Annotation;
 use methylation::is_annotated;
@@ -28,17 +27,24 @@ pub enum DuplexConsensus {
     Both(usize),
 }
 
+// What is given of a strand: whether it is there, its annotation, and how long its arrays are.
+pub struct GivenStrand {
+    pub present: bool,
+    pub annotation: Annotation,
+    pub lengths: Lengths,
+}
+
 // The length of a record: the shorter of the strands present.
-fn record_length(a_present: bool, a: usize, b_present: bool, b: usize) -> usize
-    ensures { λ r. ⌜ r ≡ shorterPresent «a_present» a «b_present» b ⌝ }
+fn record_length(a: GivenStrand, b: GivenStrand) -> usize
+    ensures { λ r. ⌜ r ≡ shorterPresent a b ⌝ }
 {
-    if a_present {
-        if b_present {
-            return smaller(a, b);
+    if a.present {
+        if b.present {
+            return smaller(a.lengths.bases, b.lengths.bases);
         }
-        return a;
+        return a.lengths.bases;
     }
-    if b_present { b } else { 0 }
+    if b.present { b.lengths.bases } else { 0 }
 }
 
 // Whether some depth of a strand within n positions is above 0.
@@ -56,164 +62,68 @@ fn is_covered(n: usize, present: bool, depths: &[u16]) -> bool
 }
 
 // The record's kind, once its strands are known to be of one length each.
-fn kind_of(
-    a_present: bool,
-    a: usize,
-    a_depths: &[u16],
-    b_present: bool,
-    b: usize,
-    b_depths: &[u16],
-) -> DuplexConsensus
-    ensures { λ r. ⌜ r ≡ kindBy «a_present» a (now («a_depths» .entry)) «b_present» b (now («b_depths» .entry)) ⌝ }
+fn kind_of(a: GivenStrand, a_depths: &[u16], b: GivenStrand, b_depths: &[u16]) -> DuplexConsensus
+    ensures { λ r. ⌜ r ≡ kindBy a (now («a_depths» .entry)) b (now («b_depths» .entry)) ⌝ }
 {
-    let n = record_length(a_present, a, b_present, b);
-    let a_covered = is_covered(n, a_present, a_depths);
-    let b_covered = is_covered(n, b_present, b_depths);
+    let n = record_length(a, b);
+    let a_covered = is_covered(n, a.present, a_depths);
+    let b_covered = is_covered(n, b.present, b_depths);
     if a_covered {
         if b_covered {
             return DuplexConsensus::Both(n);
         }
-        return DuplexConsensus::Ab(a);
+        return DuplexConsensus::Ab(a.lengths.bases);
     }
     if b_covered {
-        return DuplexConsensus::Ba(b);
+        return DuplexConsensus::Ba(b.lengths.bases);
     }
     DuplexConsensus::NoRecord
 }
 
 // Row 7's condition for a strand that may be absent.
-fn is_long(present: bool, annotation: Annotation, s: Lengths) -> bool
-    ensures { λ r. ⌜ r ≡ long present annotation s ⌝ }
+fn is_long(s: GivenStrand) -> bool
+    ensures { λ r. ⌜ r ≡ long s ⌝ }
 {
-    present & strand_too_long(is_annotated(annotation), s)
+    let annotation = s.annotation;
+    let lengths = s.lengths;
+    s.present & strand_too_long(is_annotated(annotation), lengths)
 }
 
 // Row 8's.
-fn is_uneven(present: bool, annotation: Annotation, s: Lengths) -> bool
-    ensures { λ r. ⌜ r ≡ uneven present annotation s ⌝ }
+fn is_uneven(s: GivenStrand) -> bool
+    ensures { λ r. ⌜ r ≡ uneven s ⌝ }
 {
-    present & strand_ragged(is_annotated(annotation), s)
+    let annotation = s.annotation;
+    let lengths = s.lengths;
+    s.present & strand_ragged(is_annotated(annotation), lengths)
 }
 
 // The rows that are tested whether or not there will be a record.
-fn given_refusal(
-    a_present: bool,
-    a_annotation: Annotation,
-    a: Lengths,
-    b_present: bool,
-    b_annotation: Annotation,
-    b: Lengths,
-    listed: bool,
-    reads: usize,
-    leaving: bool,
-) -> u8
-    ensures { λ r. ⌜ r ≡ refusal (givenFaults «a_present» «a_annotation» a «b_present» «b_annotation» b listed reads leaving) ⌝ }
+fn given_refusal(a: GivenStrand, b: GivenStrand, listed: bool, reads: usize, leaving: bool) -> u8
+    ensures { λ r. ⌜ r ≡ refusal (givenFaults a b listed reads leaving) ⌝ }
 {
-    let number = refuse_if(
-        0,
-        is_long(a_present, a_annotation, a) | is_long(b_present, b_annotation, b),
-        TOO_LONG,
-    );
-    let number = refuse_if(
-        number,
-        is_uneven(a_present, a_annotation, a) | is_uneven(b_present, b_annotation, b),
-        RAGGED,
-    );
+    let number = refuse_if(0, is_long(a) | is_long(b), TOO_LONG);
+    let number = refuse_if(number, is_uneven(a) | is_uneven(b), RAGGED);
     let number = refuse_if(number, listed & (MAX_READS < reads), TOO_MANY_READS);
     refuse_if(number, listed & leaving, PART_OUTSIDE)
-}
-
-// How long each array of a strand is.
-fn lengths_of(
-    bases: &[u8],
-    quals: &[u8],
-    depths: &[u16],
-    errors: &[u16],
-    marks: &[u8],
-    unconverted: &[u32],
-    converted: &[u32],
-) -> Lengths
-    ensures { λ r. ⌜ r ≡ lengths (arrays (now (bases .entry)) (now (quals .entry)) (now (depths .entry)) (now (errors .entry)) (now (marks .entry)) (now (unconverted .entry)) (now (converted .entry))) ⌝ }
-{
-    Lengths {
-        bases: bases.len(),
-        quals: quals.len(),
-        depths: depths.len(),
-        errors: errors.len(),
-        marks: marks.len(),
-        unconverted: unconverted.len(),
-        converted: converted.len(),
-    }
 }
 
 // The kind of the record that two strands make, either of which may be absent, and how many positions it has. Of a list of reads it
 // is told how many there are, and whether a read's part leaves its buffer. Refuses by 7, 8, 9, 10.
 pub fn record_kind(
-    a_present: bool,
-    a_bases: &[u8],
-    a_quals: &[u8],
+    a: GivenStrand,
     a_depths: &[u16],
-    a_errors: &[u16],
-    a_annotation: Annotation,
-    a_marks: &[u8],
-    a_unconverted: &[u32],
-    a_converted: &[u32],
-    b_present: bool,
-    b_bases: &[u8],
-    b_quals: &[u8],
+    b: GivenStrand,
     b_depths: &[u16],
-    b_errors: &[u16],
-    b_annotation: Annotation,
-    b_marks: &[u8],
-    b_unconverted: &[u32],
-    b_converted: &[u32],
     listed: bool,
     reads: usize,
     leaving: bool,
 ) -> DuplexConsensus
-    ensures { λ r. ⌜ r ≡ recordKind
-        (strand «a_present» «a_annotation» (arrays (now («a_bases» .entry)) (now («a_quals» .entry)) (now («a_depths» .entry)) (now («a_errors» .entry)) (now («a_marks» .entry)) (now («a_unconverted» .entry)) (now («a_converted» .entry))))
-        (strand «b_present» «b_annotation» (arrays (now («b_bases» .entry)) (now («b_quals» .entry)) (now («b_depths» .entry)) (now («b_errors» .entry)) (now («b_marks» .entry)) (now («b_unconverted» .entry)) (now («b_converted» .entry))))
-        listed reads leaving ⌝ }
+    ensures { λ r. ⌜ r ≡ kindGiven a (now («a_depths» .entry)) b (now («b_depths» .entry)) listed reads leaving ⌝ }
 {
-    let a = lengths_of(
-        a_bases,
-        a_quals,
-        a_depths,
-        a_errors,
-        a_marks,
-        a_unconverted,
-        a_converted,
-    );
-    let b = lengths_of(
-        b_bases,
-        b_quals,
-        b_depths,
-        b_errors,
-        b_marks,
-        b_unconverted,
-        b_converted,
-    );
-    let number = given_refusal(
-        a_present,
-        a_annotation,
-        a,
-        b_present,
-        b_annotation,
-        b,
-        listed,
-        reads,
-        leaving,
-    );
+    let number = given_refusal(a, b, listed, reads, leaving);
     if number != 0 {
         return DuplexConsensus::Refused(number);
     }
-    kind_of(
-        a_present,
-        a_bases.len(),
-        a_depths,
-        b_present,
-        b_bases.len(),
-        b_depths,
-    )
+    kind_of(a, a_depths, b, b_depths)
 }

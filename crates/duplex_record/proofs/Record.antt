@@ -1,4 +1,5 @@
 -- A record is what the call that wrote it leaves, where rows 7 to 10 are passed.
+--     kind-by              the kind, from the strands' lengths
 --     turned-down          refused by one of those rows
 --     none                 nothing is written
 --     alone-ab, alone-ba   by `gated_single_strand`, to the first strand's outputs
@@ -14,8 +15,11 @@ use Rattle.lists.specs.Output.{unless, answer}
 use Rattle.lists.proofs.Output.{answer-refused, answer-passed, answer-map, after-none}
 use Rattle.refusals.specs.Refusal.{Fault, _if_, refusal}
 use Rattle.refusals.proofs.Refusal.{and-then}
+use Rattle.methylation.specs.Arrays.{evidenceArrays}
+use Rattle.vanilla_caller.specs.Strand.{lengths}
+use Rattle.vanilla_caller.specs.declared.Lengths.{Lengths}
 use Rattle.duplex_molecule.specs.Molecule.{ctInput}
-use Rattle.duplex_outputs.specs.Outputs.{RecordArrays, recordOf, recordLengths, recordTooShort, LeavesRecord}
+use Rattle.duplex_outputs.specs.Outputs.{RecordArrays, recordLengths, recordTooShort, LeavesRecord}
 use Rattle.duplex_outputs.proofs.Outputs.{record-refused}
 use Rattle.duplex_single.specs.Single.{singleArrays, singleFaults, singleRefused, SingleAs}
 use Rattle.duplex_single.specs.declared.SingleStrandRecord.{SingleStrandRecord}
@@ -23,22 +27,18 @@ use Rattle.duplex_single.specs.declared.SingleStrandRecord.the-variants.{Refuse
 use Rattle.duplex_strands.specs.Combine.{uncounted, combineFaults, combineRefused, CombinedAs}
 use Rattle.duplex_strands.specs.declared.Combined.{Combined}
 use Rattle.duplex_strands.specs.declared.Combined.the-variants.{Refused as Refused-combined}
-use Rattle.duplex_kind.specs.Kind.{Strand, annotated, positions, kindOf, givenFaults, strandFaults, recordKind}
+use Rattle.duplex_kind.specs.Kind.{Strand, annotated, positions, kindOf, givenFaults, strandFaults, kindGiven, recordKind}
 use Rattle.duplex_kind.specs.declared.DuplexConsensus.{DuplexConsensus}
 use Rattle.duplex_kind.specs.declared.DuplexConsensus.the-variants.{Refused, NoRecord, Ab, Ba, Both}
+use Rattle.duplex_kind.specs.declared.GivenStrand.{GivenStrand}
 use Rattle.duplex_kind.proofs.Kind.{Passes, is-refused, is-none, is-ab, is-ba, is-both}
 use Rattle.duplex_record.specs.Parts.{abOf, baOf, bothOf}
 use Rattle.duplex_record.specs.Record.{nothing, recordArrays, outputsShort, duplexFaults, duplexRefused, DuplexAs}
+use Rattle.duplex_record.proofs.Untouched.{Same, same, no-evidence}
 
 -- The outputs to which a strand alone goes.
 abbrev pub firstStrand : RecordArrays → RecordArrays
-firstStrand r = recordOf (r .bases) (r .quals) (r .errors) (r .marksA) (r .unconvertedA) (r .convertedA) [] [] []
-
--- The others are as they were.
-pub record SameSecond (before now : RecordArrays) : Type 0 where
-  pub marks : now .marksB ≡ before .marksB
-  pub unconverted : now .unconvertedB ≡ before .unconvertedB
-  pub converted : now .convertedB ≡ before .convertedB
+firstStrand r = record { bases = r .bases; quals = r .quals; errors = r .errors; a = r .a; b = evidenceArrays [] [] [] }
 
 -- A strand that passes rows 7 and 8 is refused alone only by 12.
 single-12 : (s : Strand) (out : RecordArrays) → Passes s → singleRefused (s .annotation) (s .arrays) (firstStrand out) ≡ refusal ((12 if recordTooShort (positions s) (annotated s) false (recordLengths out)) ∷ [])
@@ -59,17 +59,13 @@ unfolding answer unless
 handed-single of h zero x = refl
 handed-single of h (suc n) x = h (suc n)
 
-leaves-first : (s : Strand) (number : ℕ) {before now : RecordArrays} → LeavesRecord number (singleArrays (s .annotation) (s .arrays)) (firstStrand before) (firstStrand now) → SameSecond before now → LeavesRecord number (singleArrays (s .annotation) (s .arrays)) before now
+leaves-first : (s : Strand) (number : ℕ) {before now : RecordArrays} → LeavesRecord number (singleArrays (s .annotation) (s .arrays)) (firstStrand before) (firstStrand now) → Same (before .b) (now .b) → LeavesRecord number (singleArrays (s .annotation) (s .arrays)) before now
 leaves-first s number l o = record {
   bases = l .bases;
   quals = l .quals;
   errors = l .errors;
-  marksA = l .marksA;
-  unconvertedA = l .unconvertedA;
-  convertedA = l .convertedA;
-  marksB = o .marks ∙ after-none number _;
-  unconvertedB = o .unconverted ∙ after-none number _;
-  convertedB = o .converted ∙ after-none number _;
+  a = l .a;
+  b = no-evidence number o;
 }
 
 leaves-equal : {n m : ℕ} {v w before now : RecordArrays} → n ≡ m → v ≡ w → LeavesRecord n v before now → LeavesRecord m w before now
@@ -80,13 +76,23 @@ untouched number out = record {
   bases = after-none number _;
   quals = after-none number _;
   errors = after-none number _;
-  marksA = after-none number _;
-  unconvertedA = after-none number _;
-  convertedA = after-none number _;
-  marksB = after-none number _;
-  unconvertedB = after-none number _;
-  convertedB = after-none number _;
+  a = no-evidence number same;
+  b = no-evidence number same;
 }
+
+-- A strand as the code has it, of these lengths.
+abbrev of-lengths : Strand → Lengths → GivenStrand
+of-lengths s l = record { present = s .present; annotation = s .annotation; lengths = l }
+
+-- The kind that the code asked for, by the lengths that it has of the strands.
+pub kind-by :
+    (a b : Strand) (listed : Bool) (count : ℕ) (leaving : Bool) {x y : Lengths} {k r : DuplexConsensus}
+    → x ≡ lengths (a .arrays)
+    → y ≡ lengths (b .arrays)
+    → k ≡ kindGiven (of-lengths a x) (a .arrays .depths) (of-lengths b y) (b .arrays .depths) listed count leaving
+    → k ≡ r
+    → recordKind a b listed count leaving ≡ r
+kind-by a b listed count leaving e f g h = sym (rw (e, f) at g) ∙ h
 
 module _ (a b : Strand) (listed : Bool) (count : ℕ) (leaving : Bool) (before : RecordArrays) where
   abbrev given : List Fault
@@ -135,7 +141,7 @@ module _ (a b : Strand) (listed : Bool) (count : ℕ) (leaving : Bool) (before :
         → of (Written-single (positions s)) ≡ kindOf a b
         → singleArrays (s .annotation) (s .arrays) ≡ recordArrays a b listed uncounted (kindOf a b)
         → SingleAs (s .annotation) (s .arrays) (firstStrand before) (firstStrand now) r
-        → SameSecond before now
+        → Same (before .b) (now .b)
         → Promised (of r)
     alone s of h e kind written single other =
         let number = singleRefused (s .annotation) (s .arrays) (firstStrand before) in
@@ -144,12 +150,12 @@ module _ (a b : Strand) (listed : Bool) (count : ℕ) (leaving : Bool) (before :
           outputs = leaves-equal e written (leaves-first s number (single .outputs) other);
         }
 
-    pub alone-ab : {m : ℕ} {r : SingleStrandRecord} → recordKind a b listed count leaving ≡ Ab m → SingleAs (a .annotation) (a .arrays) (firstStrand before) (firstStrand now) r → SameSecond before now → Promised (abOf r)
+    pub alone-ab : {m : ℕ} {r : SingleStrandRecord} → recordKind a b listed count leaving ≡ Ab m → SingleAs (a .annotation) (a .arrays) (firstStrand before) (firstStrand now) r → Same (before .b) (now .b) → Promised (abOf r)
     alone-ab e single other =
         let (z, k, p) = is-ab a b listed count leaving e in
         alone a abOf (λ n. refl) (single-12 a before p ∙ sym (left-12 z k)) (sym k) (ap (recordArrays a b listed uncounted) (sym k)) single other
 
-    pub alone-ba : {m : ℕ} {r : SingleStrandRecord} → recordKind a b listed count leaving ≡ Ba m → SingleAs (b .annotation) (b .arrays) (firstStrand before) (firstStrand now) r → SameSecond before now → Promised (baOf r)
+    pub alone-ba : {m : ℕ} {r : SingleStrandRecord} → recordKind a b listed count leaving ≡ Ba m → SingleAs (b .annotation) (b .arrays) (firstStrand before) (firstStrand now) r → Same (before .b) (now .b) → Promised (baOf r)
     alone-ba e single other =
         let (z, k, p) = is-ba a b listed count leaving e in
         alone b baOf (λ n. refl) (single-12 b before p ∙ sym (left-12 z k)) (sym k) (ap (recordArrays a b listed uncounted) (sym k)) single other

@@ -1,10 +1,9 @@
 -- Two strands of which neither is annotated: combined without their evidence, they give what they give with it. Assumes nothing.
-use mathlib.Core.Path.{_≡_, refl, _∙_}
+use mathlib.Core.Path.{_≡_, refl}
 use mathlib.Core.Bool.{Bool, false, _||_, true≢false}
 use mathlib.Core.List.{[]}
 use Prim.Native.Nat.{ℕ}
 use Rattle.lists.specs.Part.{onlyIf}
-use Rattle.lists.proofs.Output.{after-none}
 use Rattle.methylation.specs.Methylation.{isAnnotated}
 use Rattle.methylation.specs.declared.Annotation.{Annotation}
 use Rattle.methylation.specs.declared.Annotation.the-variants.{Absent, Of}
@@ -15,6 +14,7 @@ use Rattle.duplex_call.specs.Annotated.{combined}
 use Rattle.duplex_outputs.specs.Outputs.{RecordArrays, recordOf, recordTooShort, LeavesRecord}
 use Rattle.duplex_strands.specs.Combine.{combinedBases, combinedQuals, combinedErrors, estimates, keptMarks, keptUnconverted, keptConverted, uncounted, commonLength, bothArrays, combineFaults, combineRefused, CombinedAs}
 use Rattle.duplex_strands.specs.declared.Combined.{Combined}
+use Rattle.duplex_record.proofs.Untouched.{Same, no-evidence}
 
 -- A strand without its evidence, and the outputs that then are written.
 abbrev pub bare : Arrays → Arrays
@@ -25,12 +25,8 @@ own r = recordOf (r .bases) (r .quals) (r .errors) [] [] [] [] [] []
 
 -- The evidence's outputs are as they were.
 pub record SameEvidence (before now : RecordArrays) : Type 0 where
-  pub marksA : now .marksA ≡ before .marksA
-  pub unconvertedA : now .unconvertedA ≡ before .unconvertedA
-  pub convertedA : now .convertedA ≡ before .convertedA
-  pub marksB : now .marksB ≡ before .marksB
-  pub unconvertedB : now .unconvertedB ≡ before .unconvertedB
-  pub convertedB : now .convertedB ≡ before .convertedB
+  pub a : Same (before .a) (now .a)
+  pub b : Same (before .b) (now .b)
 
 -- Nothing of the evidence is looked at, and none is written.
 bare-refused : (a b : Arrays) (out : RecordArrays) → combineRefused Absent (bare a) Absent (bare b) (own out) ≡ combineRefused Absent a Absent b out
@@ -51,12 +47,8 @@ leaves-own number listed a b l same = record {
   bases = l .bases;
   quals = l .quals;
   errors = l .errors;
-  marksA = same .marksA ∙ after-none number _;
-  unconvertedA = same .unconvertedA ∙ after-none number _;
-  convertedA = same .convertedA ∙ after-none number _;
-  marksB = same .marksB ∙ after-none number _;
-  unconvertedB = same .unconvertedB ∙ after-none number _;
-  convertedB = same .convertedB ∙ after-none number _;
+  a = no-evidence number (same .a);
+  b = no-evidence number (same .b);
 }
 
 absent : (listed : Bool) (a b : Arrays) {before now : RecordArrays} {r : Combined} → CombinedAs Neither Absent (bare a) Absent (bare b) listed (own before) (own now) r → SameEvidence before now → CombinedAs Neither Absent a Absent b listed before now r

@@ -6,7 +6,7 @@ use mathlib.Core.List.{List, [], _∷_, _++_}
 use Rattle.lists.specs.Output.{answer}
 use Rattle.refusals.specs.Refusal.{Fault, _if_, refusal}
 use Rattle.duplex_molecule.specs.Molecule.{ctInput}
-use Rattle.duplex_outputs.specs.Outputs.{RecordArrays, recordLengths, recordTooShort, LeavesRecord}
+use Rattle.duplex_outputs.specs.Outputs.{RecordArrays, recordOf, recordLengths, recordTooShort, LeavesRecord}
 use Rattle.duplex_strands.specs.Combine.{bothArrays}
 use Rattle.duplex_single.specs.Single.{singleArrays}
 use Rattle.duplex_kind.specs.Kind.{Strand, annotated, kindOf, strandFaults}
@@ -15,17 +15,7 @@ use Rattle.duplex_kind.specs.declared.DuplexConsensus.the-variants.{Refused, No
 
 -- Nothing is written.
 abbrev pub nothing : RecordArrays
-nothing = record {
-  bases = [];
-  quals = [];
-  errors = [];
-  marksA = [];
-  unconvertedA = [];
-  convertedA = [];
-  marksB = [];
-  unconvertedB = [];
-  convertedB = [];
-}
+nothing = recordOf [] [] [] [] [] [] [] [] []
 
 -- What is written. `counted` is what was counted of a list of reads at each position of a record of two strands.
 abbrev pub recordArrays : Strand → Strand → Bool → (ℕ → ℕ) → DuplexConsensus → RecordArrays

@@ -10,6 +10,7 @@ ghost use Rattle.duplex_record.specs.Parts.{abOf, baOf, bothOf};
 ghost use Rattle.duplex_record.specs.Record.{DuplexAs};
 use duplex_annotated::combine_strands_annotated;
 pub use duplex_kind::DuplexConsensus;
+use duplex_kind::GivenStrand;
 use duplex_kind::record_kind;
 use duplex_single::SingleStrandRecord;
 use duplex_single::gated_single_strand;
@@ -17,6 +18,7 @@ use duplex_strands::Combined;
 use duplex_strands::combine_strands;
 use methylation::Annotation;
 use methylation::is_annotated;
+use vanilla_caller::lengths_of;
 
 fn ab_of(r: SingleStrandRecord) -> DuplexConsensus
     ensures { λ s. ⌜ s ≡ abOf r ⌝ }
@@ -88,29 +90,35 @@ pub fn duplex_record(
         (recordOf (now («bases_out» .exit)) (now («quals_out» .exit)) (now («errors_out» .exit)) (now («a_marks_out» .exit)) (now («a_unconverted_out» .exit)) (now («a_converted_out» .exit)) (now («b_marks_out» .exit)) (now («b_unconverted_out» .exit)) (now («b_converted_out» .exit)))
         r ⌝ }
 {
-    match record_kind(
-        a_present,
+    let a_lengths = lengths_of(
         a_bases,
         a_quals,
         a_depths,
         a_errors,
-        a_annotation,
         a_marks,
         a_unconverted,
         a_converted,
-        b_present,
+    );
+    let b_lengths = lengths_of(
         b_bases,
         b_quals,
         b_depths,
         b_errors,
-        b_annotation,
         b_marks,
         b_unconverted,
         b_converted,
-        listed,
-        reads,
-        leaving,
-    ) {
+    );
+    let a = GivenStrand {
+        present: a_present,
+        annotation: a_annotation,
+        lengths: a_lengths,
+    };
+    let b = GivenStrand {
+        present: b_present,
+        annotation: b_annotation,
+        lengths: b_lengths,
+    };
+    match record_kind(a, a_depths, b, b_depths, listed, reads, leaving) {
         DuplexConsensus::Refused(number) => DuplexConsensus::Refused(number),
         DuplexConsensus::NoRecord => DuplexConsensus::NoRecord,
         DuplexConsensus::Ab(_) => ab_of(gated_single_strand(

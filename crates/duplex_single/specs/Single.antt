@@ -9,6 +9,7 @@ use Rattle.lists.specs.Output.{answer}
 use Rattle.lists.specs.Part.{onlyIf}
 use Rattle.lists.specs.Table.{tabulate}
 use Rattle.refusals.specs.Refusal.{Fault, _if_, refusal}
+use Rattle.methylation.specs.Arrays.{evidenceArrays}
 use Rattle.methylation.specs.Methylation.{isAnnotated, evidenceIf}
 use Rattle.methylation.specs.declared.Annotation.{Annotation}
 use Rattle.methylation.specs.declared.Evidence.{Evidence}
@@ -35,7 +36,7 @@ convertedGated n marks unconverted converted = tabulate n (λ i. gatedEvidence m
 
 -- Evidence is written where there is an annotation.
 abbrev pub gated : (ℕ → List ℕ → List ℕ → List ℕ → List ℕ) → Annotation → Arrays → List ℕ
-gated of annotation s = onlyIf (isAnnotated annotation) (of (length (s .bases)) (s .marks) (s .unconverted) (s .converted))
+gated of annotation s = onlyIf (isAnnotated annotation) (of (length (s .bases)) (s .evidence .marks) (s .evidence .unconverted) (s .evidence .converted))
 
 -- What is written of a strand alone. It is stored as the first strand; there is no second.
 abbrev pub singleArrays : Annotation → Arrays → RecordArrays
@@ -43,12 +44,8 @@ singleArrays annotation s = record {
   bases = s .bases;
   quals = s .quals;
   errors = s .errors;
-  marksA = gated marksGated annotation s;
-  unconvertedA = gated unconvertedGated annotation s;
-  convertedA = gated convertedGated annotation s;
-  marksB = [];
-  unconvertedB = [];
-  convertedB = [];
+  a = evidenceArrays (gated marksGated annotation s) (gated unconvertedGated annotation s) (gated convertedGated annotation s);
+  b = evidenceArrays [] [] [];
 }
 
 -- The strand's annotation, the lengths of its arrays, and those of the outputs.

@@ -16,6 +16,7 @@ use duplex_outputs::record_too_short;
 use lists::copy_u8;
 use lists::copy_u16;
 use methylation::Annotation;
+use methylation::EvidenceLengths;
 use methylation::evidence_if;
 use methylation::is_annotated;
 use refusals::OUTPUT_TOO_SHORT;
@@ -23,6 +24,7 @@ use refusals::RAGGED;
 use refusals::TOO_LONG;
 use refusals::refuse_if;
 use vanilla_caller::Lengths;
+use vanilla_caller::lengths_of;
 use vanilla_caller::strand_ragged;
 use vanilla_caller::strand_too_long;
 
@@ -108,25 +110,21 @@ pub fn gated_single_strand(
         (recordOf (now («bases_out» .exit)) (now («quals_out» .exit)) (now («errors_out» .exit)) (now («marks_out» .exit)) (now («unconverted_out» .exit)) (now («converted_out» .exit)) [] [] [])
         r ⌝ }
 {
-    let strand = Lengths {
-        bases: bases.len(),
-        quals: quals.len(),
-        depths: depths.len(),
-        errors: errors.len(),
-        marks: marks.len(),
-        unconverted: unconverted.len(),
-        converted: converted.len(),
-    };
+    let strand = lengths_of(bases, quals, depths, errors, marks, unconverted, converted);
     let out = RecordLengths {
         bases: bases_out.len(),
         quals: quals_out.len(),
         errors: errors_out.len(),
-        marksA: marks_out.len(),
-        unconvertedA: unconverted_out.len(),
-        convertedA: converted_out.len(),
-        marksB: 0,
-        unconvertedB: 0,
-        convertedB: 0,
+        a: EvidenceLengths {
+            marks: marks_out.len(),
+            unconverted: unconverted_out.len(),
+            converted: converted_out.len(),
+        },
+        b: EvidenceLengths {
+            marks: 0,
+            unconverted: 0,
+            converted: 0,
+        },
     };
     let number = single_refusal(annotation, strand, out);
     if number != 0 {

@@ -4,25 +4,26 @@
 --     errors-enough, first-enough, second-enough  for the errors, and for the evidence of A and of B
 -- Assumes nothing.
 use mathlib.Core.Path.{_≡_, refl, sym}
-use mathlib.Core.Bool.{true, false, _&&_, _||_, true≢false}
+use mathlib.Core.Bool.{true, false, true≢false}
 use mathlib.Core.List.{[], _∷_}
 use Prim.Native.Nat.{ℕ, _≤_}
 use native.Mathlib.Omega.{arith}
-use Rattle.refusals.specs.Refusal.{ragged, tooShort, refusal}
+use Rattle.refusals.specs.Refusal.{refusal}
 use Rattle.refusals.proofs.Refusal.{passed}
-use Rattle.refusals.proofs.Condition.{Every, nor-where, not-ragged, not-too-short}
+use Rattle.refusals.proofs.Condition.{Every, nor-where}
 use Rattle.methylation.specs.Methylation.{isAnnotated}
 use Rattle.methylation.specs.declared.Annotation.{Annotation}
 use Rattle.methylation.specs.declared.Annotation.the-variants.{Absent, Of}
 use Rattle.methylation.specs.declared.ConversionPattern.the-variants.{CToT, GToA}
-use Rattle.vanilla_caller.specs.Strand.{four, evidence, strandRagged}
+use Rattle.vanilla_caller.specs.Strand.{strandRagged}
 use Rattle.vanilla_caller.specs.declared.Lengths.{Lengths}
+use Rattle.vanilla_caller.proofs.Strand.{even}
 use Rattle.duplex_molecule.specs.Molecule.{ctInput, canCall}
 use Rattle.duplex_molecule.specs.declared.CtInput.{CtInput}
 use Rattle.duplex_arrays.specs.Positions.{arraysShort}
 use Rattle.duplex_arrays.proofs.Short.{long-enough}
-use Rattle.duplex_outputs.specs.Outputs.{recordTooShort}
 use Rattle.duplex_outputs.specs.declared.RecordLengths.{RecordLengths}
+use Rattle.duplex_outputs.proofs.Outputs.{Roomy, roomy}
 use Rattle.duplex_strands.specs.Combine.{commonLength, combineFaults}
 
 -- A strand reaches n positions, and where it is annotated its evidence does.
@@ -31,49 +32,37 @@ record Reaches (m : Annotation) (s : Lengths) (n : ℕ) : Type 0 where
   quals : n ≤ s .quals
   depths : n ≤ s .depths
   errors : n ≤ s .errors
-  evidence : isAnnotated m ≡ true → (n ≤ s .marks) × (n ≤ s .unconverted) × (n ≤ s .converted)
+  evidence : isAnnotated m ≡ true → (n ≤ s .evidence .marks) × (n ≤ s .evidence .unconverted) × (n ≤ s .evidence .converted)
 
 pub record Room (ma : Annotation) (a : Lengths) (mb : Annotation) (b : Lengths) (out : RecordLengths) (n : ℕ) : Type 0 where
   strandA : Reaches ma a n
   strandB : Reaches mb b n
-  own : Every (λ x. n ≤ x) (out .bases ∷ out .quals ∷ out .errors ∷ [])
-  evidenceA : isAnnotated ma ≡ true → Every (λ x. n ≤ x) (out .marksA ∷ out .unconvertedA ∷ out .convertedA ∷ [])
-  evidenceB : isAnnotated mb ≡ true → Every (λ x. n ≤ x) (out .marksB ∷ out .unconvertedB ∷ out .convertedB ∷ [])
+  outputs : Roomy n (isAnnotated ma) (isAnnotated mb) out
 
 reaches : (m : Annotation) (s : Lengths) (n : ℕ) → n ≤ s .bases → strandRagged (isAnnotated m) s ≡ false → Reaches m s n
-unfolding strandRagged
 reaches m s n h e =
-    let (same, same-evidence) = nor-where (ragged (four s)) (isAnnotated m) (ragged (s .bases ∷ evidence s)) e in
-    let equal = not-ragged (s .bases) (s .quals ∷ s .depths ∷ s .errors ∷ []) same in
+    let same = even (isAnnotated m) s e in
     record {
       bases = h;
-      quals = omega arith;
-      depths = omega arith;
-      errors = omega arith;
+      quals = omega (arith, same .own .0);
+      depths = omega (arith, same .own .1 .0);
+      errors = omega (arith, same .own .1 .1 .0);
       evidence = λ k.
-          let all = not-ragged (s .bases) (evidence s) (same-evidence k) in
-          (omega arith, omega arith, omega arith);
+          let all = same .evidence k in
+          (omega (arith, all .0), omega (arith, all .1 .0), omega (arith, all .1 .1 .0));
     }
 
 module _ (ma : Annotation) (a : Lengths) (mb : Annotation) (b : Lengths) (out : RecordLengths) where
   common-room : {number : ℕ} → number ≡ refusal (combineFaults ma a mb b out) → number ≡ 0 → Room ma a mb b out (commonLength a b)
-  unfolding combineFaults recordTooShort
+  unfolding combineFaults
   common-room e z =
       let n = commonLength a b in
       let faults = combineFaults ma a mb b out in
       let (even-a, even-b) = nor-where (strandRagged (isAnnotated ma) a) true (strandRagged (isAnnotated mb) b) (passed 8 faults tt tt e z .0) in
-      let outs-a = out .marksA ∷ out .unconvertedA ∷ out .convertedA ∷ [] in
-      let outs-b = out .marksB ∷ out .unconvertedB ∷ out .convertedB ∷ [] in
-      let own = out .bases ∷ out .quals ∷ out .errors ∷ [] in
-      let (wide, wide-evidence) =
-      nor-where (tooShort n own) true ((isAnnotated ma && tooShort n outs-a) || (isAnnotated mb && tooShort n outs-b)) (passed 12 faults tt tt e z .0) in
-      let (wide-a, wide-b) = nor-where (isAnnotated ma && tooShort n outs-a) (isAnnotated mb) (tooShort n outs-b) (wide-evidence refl) in
       record {
         strandA = reaches ma a n (omega arith) even-a;
         strandB = reaches mb b n (omega arith) (even-b refl);
-        own = not-too-short n own wide;
-        evidenceA = λ k. not-too-short n outs-a (nor-where false (isAnnotated ma) (tooShort n outs-a) wide-a .1 k);
-        evidenceB = λ k. not-too-short n outs-b (wide-b k);
+        outputs = roomy n (isAnnotated ma) (isAnnotated mb) out (passed 12 faults tt tt e z .0);
       }
 
   -- Number and n are what the code has.
@@ -95,7 +84,7 @@ never e = absurd (true≢false (sym e))
 
 module _ {ma : Annotation} {a : Lengths} {mb : Annotation} {b : Lengths} {out : RecordLengths} {n : ℕ} (r : Room ma a mb b out n) where
   positions : Every (λ x. n ≤ x) (a .bases ∷ a .quals ∷ b .bases ∷ b .quals ∷ out .bases ∷ out .quals ∷ [])
-  positions = (r .strandA .bases, (r .strandA .quals, (r .strandB .bases, (r .strandB .quals, (r .own .0, (r .own .1 .0, tt))))))
+  positions = (r .strandA .bases, (r .strandA .quals, (r .strandB .bases, (r .strandB .quals, (r .outputs .own .0, (r .outputs .own .1 .0, tt))))))
 
   pub plain-enough : arraysShort n false (0 ∷ 0 ∷ []) (a .bases ∷ a .quals ∷ b .bases ∷ b .quals ∷ out .bases ∷ out .quals ∷ []) ≡ false
   plain-enough = long-enough n false _ _ never positions
@@ -103,7 +92,7 @@ module _ {ma : Annotation} {a : Lengths} {mb : Annotation} {b : Lengths} {out : 
   pub called-enough :
       {ct : CtInput}
       → ct ≡ ctInput ma mb
-      → arraysShort n (canCall ct) (a .marks ∷ b .marks ∷ []) (a .bases ∷ a .quals ∷ b .bases ∷ b .quals ∷ out .bases ∷ out .quals ∷ []) ≡ false
+      → arraysShort n (canCall ct) (a .evidence .marks ∷ b .evidence .marks ∷ []) (a .bases ∷ a .quals ∷ b .bases ∷ b .quals ∷ out .bases ∷ out .quals ∷ []) ≡ false
   called-enough e =
       rw e
       (long-enough n (canCall (ctInput ma mb)) _ _
@@ -120,18 +109,18 @@ module _ {ma : Annotation} {a : Lengths} {mb : Annotation} {b : Lengths} {out : 
       let s = r .strandA in
       let t = r .strandB in
       long-enough n false _ _ never
-      (s .bases, (s .quals, (s .depths, (s .errors, (t .bases, (t .quals, (t .depths, (t .errors, (r .own .1 .1 .0, tt)))))))))
+      (s .bases, (s .quals, (s .depths, (s .errors, (t .bases, (t .quals, (t .depths, (t .errors, (r .outputs .own .1 .1 .0, tt)))))))))
 
   pub first-enough :
       isAnnotated ma ≡ true
-      → arraysShort n false [] (a .bases ∷ b .bases ∷ a .unconverted ∷ a .converted ∷ out .marksA ∷ out .unconvertedA ∷ out .convertedA ∷ []) ≡ false
+      → arraysShort n false [] (a .bases ∷ b .bases ∷ a .evidence .unconverted ∷ a .evidence .converted ∷ out .a .marks ∷ out .a .unconverted ∷ out .a .converted ∷ []) ≡ false
   first-enough k =
       let s = r .strandA .evidence k in
-      long-enough n false _ _ never (r .strandA .bases, (r .strandB .bases, (s .1, (s .2, r .evidenceA k))))
+      long-enough n false _ _ never (r .strandA .bases, (r .strandB .bases, (s .1, (s .2, r .outputs .a k))))
 
   pub second-enough :
       isAnnotated mb ≡ true
-      → arraysShort n false [] (a .bases ∷ b .bases ∷ b .unconverted ∷ b .converted ∷ out .marksB ∷ out .unconvertedB ∷ out .convertedB ∷ []) ≡ false
+      → arraysShort n false [] (a .bases ∷ b .bases ∷ b .evidence .unconverted ∷ b .evidence .converted ∷ out .b .marks ∷ out .b .unconverted ∷ out .b .converted ∷ []) ≡ false
   second-enough k =
       let s = r .strandB .evidence k in
-      long-enough n false _ _ never (r .strandA .bases, (r .strandB .bases, (s .1, (s .2, r .evidenceB k))))
+      long-enough n false _ _ never (r .strandA .bases, (r .strandB .bases, (s .1, (s .2, r .outputs .b k))))

@@ -5,6 +5,7 @@ use mathlib.Core.Bool.{Bool, _||_}
 use mathlib.Core.List.{List, [], _∷_}
 use Rattle.lists.specs.Output.{answer}
 use Rattle.refusals.specs.Refusal.{Fault, _if_, refusal}
+use Rattle.methylation.specs.Arrays.{EvidenceArrays, evidenceArrays}
 use Rattle.methylation.specs.Methylation.{isAnnotated}
 use Rattle.methylation.specs.declared.Annotation.{Annotation}
 use Rattle.vanilla_caller.specs.Strand.{Arrays, lengths, strandTooLong, strandRagged}
@@ -22,18 +23,19 @@ use Rattle.duplex_strands.specs.declared.Combined.the-variants.{Refused,
 abbrev pub commonLength : Lengths → Lengths → ℕ
 commonLength a b = min (a .bases) (b .bases)
 
+-- The evidence that is written of a strand s of this annotation.
+abbrev pub keptEvidence : ℕ → CtInput → Arrays → Arrays → Annotation → Arrays → EvidenceArrays
+keptEvidence n ct a b annotation s =
+    evidenceArrays (keptMarks n ct a b annotation s) (keptUnconverted n ct a b annotation s) (keptConverted n ct a b annotation s)
+
 -- What is written of two strands.
 abbrev pub bothArrays : Bool → (ℕ → ℕ) → ℕ → CtInput → Annotation → Arrays → Annotation → Arrays → RecordArrays
 bothArrays listed counted n ct ma a mb b = record {
   bases = combinedBases n ct a b;
   quals = combinedQuals n ct a b;
   errors = combinedErrors listed counted n ct a b;
-  marksA = keptMarks n ct a b ma a;
-  unconvertedA = keptUnconverted n ct a b ma a;
-  convertedA = keptConverted n ct a b ma a;
-  marksB = keptMarks n ct a b mb b;
-  unconvertedB = keptUnconverted n ct a b mb b;
-  convertedB = keptConverted n ct a b mb b;
+  a = keptEvidence n ct a b ma a;
+  b = keptEvidence n ct a b mb b;
 }
 
 -- Rows 7 and 8 are tested over both strands, by their lengths and the outputs'.

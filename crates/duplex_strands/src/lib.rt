@@ -15,6 +15,7 @@ use duplex_molecule::CtInput;
 use duplex_outputs::RecordLengths;
 use duplex_outputs::record_too_short;
 use methylation::Annotation;
+use methylation::EvidenceLengths;
 use methylation::is_annotated;
 use refusals::OUTPUT_TOO_SHORT;
 use refusals::RAGGED;
@@ -90,34 +91,31 @@ pub fn combine_strands(
         (recordOf (now («bases_out» .exit)) (now («quals_out» .exit)) (now («errors_out» .exit)) [] [] [] [] [] [])
         r ⌝ }
 {
+    let none = EvidenceLengths {
+        marks: 0,
+        unconverted: 0,
+        converted: 0,
+    };
     let a = Lengths {
         bases: a_bases.len(),
         quals: a_quals.len(),
         depths: a_depths.len(),
         errors: a_errors.len(),
-        marks: 0,
-        unconverted: 0,
-        converted: 0,
+        evidence: none,
     };
     let b = Lengths {
         bases: b_bases.len(),
         quals: b_quals.len(),
         depths: b_depths.len(),
         errors: b_errors.len(),
-        marks: 0,
-        unconverted: 0,
-        converted: 0,
+        evidence: none,
     };
     let out = RecordLengths {
         bases: bases_out.len(),
         quals: quals_out.len(),
         errors: errors_out.len(),
-        marksA: 0,
-        unconvertedA: 0,
-        convertedA: 0,
-        marksB: 0,
-        unconvertedB: 0,
-        convertedB: 0,
+        a: none,
+        b: none,
     };
     let number = combine_refusal(Annotation::Absent, a, Annotation::Absent, b, out);
     if number != 0 {

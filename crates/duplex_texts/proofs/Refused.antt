@@ -14,7 +14,7 @@ use Rattle.refusals.proofs.Refusal.{and-then, passed}
 use Rattle.refusals.proofs.Condition.{Every, not-ragged, neither}
 use Rattle.methylation.specs.Methylation.{isAnnotated}
 use Rattle.methylation.specs.declared.MethylationMode.{MethylationMode}
-use Rattle.methylation_evidence.specs.Arrays.{three}
+use Rattle.methylation.specs.Arrays.{three}
 use Rattle.duplex_texts.specs.Texts.{Strand, TextArrays, duplexTexts}
 use Rattle.duplex_texts.specs.Outputs.{textLengths, evidenceLengths, uneven, givenFaults, givenOf, textsTooShort, roomFaults, textsFaults, textsRefused}
 use Rattle.duplex_texts.specs.Parts.{AsLong}

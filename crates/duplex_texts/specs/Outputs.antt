@@ -10,8 +10,8 @@ use Rattle.refusals.specs.Refusal.{Fault, _if_, tooLong, ragged, refusal}
 use Rattle.methylation.specs.Methylation.{isAnnotated}
 use Rattle.methylation.specs.declared.Annotation.{Annotation}
 use Rattle.methylation.specs.declared.MethylationMode.{MethylationMode}
-use Rattle.methylation_evidence.specs.Arrays.{three}
-use Rattle.methylation_evidence.specs.declared.EvidenceLengths.{EvidenceLengths}
+use Rattle.methylation.specs.Arrays.{three}
+use Rattle.methylation.specs.declared.EvidenceLengths.{EvidenceLengths}
 use Rattle.duplex_texts.specs.Texts.{Strand, TextArrays, duplexTexts}
 use Rattle.duplex_texts.specs.declared.DuplexTexts.{DuplexTexts}
 use Rattle.duplex_texts.specs.declared.DuplexTexts.the-variants.{Refused, Texts}

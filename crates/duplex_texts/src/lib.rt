@@ -14,9 +14,9 @@ ghost use Rattle.duplex_texts.specs.Parts.{AsLong, lengthsOf, TextsAs, b
 use lists::copy_u8;
 use methylation::Annotation;
 use methylation::ConversionPattern;
+use methylation::EvidenceLengths;
 use methylation::MethylationMode;
 use methylation::is_annotated;
-use methylation_evidence::EvidenceLengths;
 use methylation_restore::methylation_strand_bases;
 use methylation_restore::restore_unconverted_bases;
 use mm_ml::MmMl;

@@ -1,9 +1,12 @@
-// Methylation: chemistries, conversion patterns and annotations, from methylation.rs and lib.rs. Uses dna and flags.
+// Methylation: chemistries, conversion patterns, annotations and their evidence, from methylation.rs and lib.rs. Uses lists,
+// refusals, dna and flags.
 ghost use mathlib.Core.Path.{_≡_};
+ghost use Rattle.methylation.specs.Arrays.{evidenceArrays, evidenceLengths, evidenceTooLong, evidenceRagged, evidenceUneven, evidenceTooShort};
 ghost use Rattle.methylation.specs.Methylation.{isEnabled, patternOfFlags, patternBases, isAnnotated, isCg, isCpgContext, evidenceIf};
 use dna::eq_ignore_ascii_case;
 use flags::LAST_SEGMENT;
 use flags::is_set;
+use refusals::MAX_POSITIONS;
 
 // The chemistry, which decides whether a converted base is methylated.
 pub enum MethylationMode {
@@ -83,6 +86,13 @@ pub struct Evidence {
     pub converted: u32,
 }
 
+// How long each array of an annotation's evidence is.
+pub struct EvidenceLengths {
+    pub marks: usize,
+    pub unconverted: usize,
+    pub converted: usize,
+}
+
 pub fn is_annotated(annotation: Annotation) -> bool
     ensures { λ r. ⌜ r ≡ isAnnotated annotation ⌝ }
 {
@@ -135,4 +145,42 @@ pub fn evidence_if(kept: bool, unconverted: u32, converted: u32) -> Evidence
         unconverted: 0,
         converted: 0,
     }
+}
+
+pub fn evidence_lengths(marks: &[u8], unconverted: &[u32], converted: &[u32]) -> EvidenceLengths
+    ensures { λ r. ⌜ r ≡ evidenceLengths (evidenceArrays (now (marks .entry)) (now (unconverted .entry)) (now (converted .entry))) ⌝ }
+{
+    EvidenceLengths {
+        marks: marks.len(),
+        unconverted: unconverted.len(),
+        converted: converted.len(),
+    }
+}
+
+// Row 7's condition for an annotation.
+pub fn evidence_too_long(e: EvidenceLengths) -> bool
+    ensures { λ r. ⌜ r ≡ evidenceTooLong e ⌝ }
+{
+    (MAX_POSITIONS < e.marks) | ((MAX_POSITIONS < e.unconverted) | (MAX_POSITIONS < e.converted))
+}
+
+// Row 8's condition for an annotation's arrays among themselves.
+pub fn evidence_ragged(e: EvidenceLengths) -> bool
+    ensures { λ r. ⌜ r ≡ evidenceRagged e ⌝ }
+{
+    (e.unconverted != e.marks) | (e.converted != e.marks)
+}
+
+// The same beside n bases.
+pub fn evidence_uneven(n: usize, e: EvidenceLengths) -> bool
+    ensures { λ r. ⌜ r ≡ evidenceUneven n e ⌝ }
+{
+    (e.marks != n) | ((e.unconverted != n) | (e.converted != n))
+}
+
+// Row 12's condition for outputs to which n positions go.
+pub fn evidence_too_short(n: usize, out: EvidenceLengths) -> bool
+    ensures { λ r. ⌜ r ≡ evidenceTooShort n out ⌝ }
+{
+    (out.marks < n) | ((out.unconverted < n) | (out.converted < n))
 }

@@ -11,7 +11,7 @@ use Rattle.lists.proofs.Table.{length-tabulate, getD-tabulate}
 use Rattle.lists.proofs.Written.{unwritten}
 use Rattle.methylation.specs.Methylation.{evidenceIf}
 use Rattle.methylation.specs.declared.Evidence.{Evidence}
-use Rattle.methylation_evidence.specs.Arrays.{EvidenceArrays, evidenceArrays, informative, EvidenceLeaves}
+use Rattle.methylation.specs.Arrays.{EvidenceArrays, evidenceArrays, informative, LeavesEvidence}
 use Rattle.methylation_evidence.specs.Gate.{gatedAt, gated}
 
 pub record Gating (n : ℕ) (e : EvidenceArrays) (i : ℕ) (now : EvidenceArrays) : Type 0 where
@@ -56,6 +56,6 @@ next-gate {e} {now} {i} {v} g h is =
       converted = next 0 _ (g .converted) h (rw here (converted-at e h));
     }
 
-pub done-gate : {n i : ℕ} {e now : EvidenceArrays} → Gating n e i now → n ≤ i → EvidenceLeaves 0 (gated e) e now
+pub done-gate : {n i : ℕ} {e now : EvidenceArrays} → Gating n e i now → n ≤ i → LeavesEvidence 0 (gated e) e now
 unfolding after unless
 done-gate g h = record { marks = done (g .marks) h; unconverted = done (g .unconverted) h; converted = done (g .converted) h }

@@ -5,7 +5,7 @@ use mathlib.Core.Path.{_≡_, refl}
 use Prim.Native.Nat.{ℕ, min}
 use lib.ListN.{length}
 use Rattle.lists.proofs.Part.{take-min}
-use Rattle.methylation_evidence.specs.Arrays.{EvidenceArrays}
+use Rattle.methylation.specs.Arrays.{EvidenceArrays}
 use Rattle.methylation_evidence.specs.Truncate.{truncated}
 
 pub same-positions :

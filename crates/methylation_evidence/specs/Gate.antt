@@ -8,8 +8,8 @@ use Rattle.lists.specs.Table.{tabulate}
 use Rattle.refusals.specs.Refusal.{Fault, _if_, refusal}
 use Rattle.methylation.specs.Methylation.{evidenceIf}
 use Rattle.methylation.specs.declared.Evidence.{Evidence}
-use Rattle.methylation_evidence.specs.Arrays.{EvidenceArrays, lengths, informative, evidenceTooLong, evidenceRagged, EvidenceLeaves}
-use Rattle.methylation_evidence.specs.declared.EvidenceLengths.{EvidenceLengths}
+use Rattle.methylation.specs.Arrays.{EvidenceArrays, evidenceLengths, informative, evidenceTooLong, evidenceRagged, LeavesEvidence}
+use Rattle.methylation.specs.declared.EvidenceLengths.{EvidenceLengths}
 use Rattle.methylation_evidence.specs.declared.Positions.{Positions}
 use Rattle.methylation_evidence.specs.declared.Positions.the-variants.{Refused, Written}
 
@@ -35,9 +35,9 @@ gateFaults e =
     ∷ []
 
 abbrev pub gateRefused : EvidenceArrays → ℕ
-gateRefused e = refusal (gateFaults (lengths e))
+gateRefused e = refusal (gateFaults (evidenceLengths e))
 
 -- What a call of `gate_to_informative` answers and leaves in the arrays.
 pub record GatedAs (before now : EvidenceArrays) (r : Positions) : Type 0 where
   pub answered : r ≡ answer Refused (gateRefused before) (Written (length (before .marks)))
-  pub outputs : EvidenceLeaves (gateRefused before) (gated before) before now
+  pub outputs : LeavesEvidence (gateRefused before) (gated before) before now

@@ -6,8 +6,8 @@ use lib.ListN.{length, take}
 use Rattle.lists.specs.Output.{answer}
 use Rattle.refusals.specs.Refusal.{Fault, _if_, refusal}
 use Rattle.vanilla_caller.specs.Strand.{mark}
-use Rattle.methylation_evidence.specs.Arrays.{EvidenceArrays, lengths, evidenceTooLong, evidenceRagged, evidenceTooShort, EvidenceLeaves}
-use Rattle.methylation_evidence.specs.declared.EvidenceLengths.{EvidenceLengths}
+use Rattle.methylation.specs.Arrays.{EvidenceArrays, evidenceLengths, evidenceTooLong, evidenceRagged, evidenceTooShort, LeavesEvidence}
+use Rattle.methylation.specs.declared.EvidenceLengths.{EvidenceLengths}
 use Rattle.methylation_evidence.specs.declared.Positions.{Positions}
 use Rattle.methylation_evidence.specs.declared.Positions.the-variants.{Refused, Written}
 
@@ -28,9 +28,9 @@ truncateFaults e len out =
     ∷ []
 
 abbrev pub truncateRefused : EvidenceArrays → ℕ → EvidenceArrays → ℕ
-truncateRefused e len out = refusal (truncateFaults (lengths e) len (lengths out))
+truncateRefused e len out = refusal (truncateFaults (evidenceLengths e) len (evidenceLengths out))
 
 -- What a call of `truncate` answers and leaves in its outputs.
 pub record TruncatedAs (e : EvidenceArrays) (len : ℕ) (before now : EvidenceArrays) (r : Positions) : Type 0 where
   pub answered : r ≡ answer Refused (truncateRefused e len before) (Written (min len (length (e .marks))))
-  pub outputs : EvidenceLeaves (truncateRefused e len before) (truncated len e) before now
+  pub outputs : LeavesEvidence (truncateRefused e len before) (truncated len e) before now

@@ -8,14 +8,18 @@ ghost use lib.ListN.{length, take};
 ghost use Rattle.lists.specs.Output.{put, answer, after};
 ghost use Rattle.refusals.specs.Refusal.{refusal};
 ghost use Rattle.vanilla_caller.specs.Strand.{mark};
-ghost use Rattle.methylation_evidence.specs.Arrays.{evidenceArrays, evidenceTooLong, evidenceRagged, evidenceTooShort, EvidenceLeaves};
+ghost use Rattle.methylation.specs.Arrays.{evidenceArrays, LeavesEvidence};
 ghost use Rattle.methylation_evidence.specs.Counts.{tagCount, tagCounts, countsFaults, countsRefused, summedCount, summedCounts, summedFaults, summedRefused};
 ghost use Rattle.methylation_evidence.specs.Gate.{gated, gateFaults, GatedAs};
 ghost use Rattle.methylation_evidence.specs.Truncate.{truncated, truncateFaults, TruncatedAs};
 use lists::at_u32;
 use lists::copy_u32;
 use lists::smaller;
+use methylation::EvidenceLengths;
 use methylation::evidence_if;
+use methylation::evidence_ragged;
+use methylation::evidence_too_long;
+use methylation::evidence_too_short;
 use numbers::min_u32;
 use numbers::saturating_add_u32;
 use refusals::MAX_POSITIONS;
@@ -34,34 +38,6 @@ pub enum Positions {
     Written(usize),
 }
 
-// How long each array of an annotation is.
-pub struct EvidenceLengths {
-    pub marks: usize,
-    pub unconverted: usize,
-    pub converted: usize,
-}
-
-// Row 7's condition for an annotation.
-fn evidence_too_long(e: EvidenceLengths) -> bool
-    ensures { λ r. ⌜ r ≡ evidenceTooLong e ⌝ }
-{
-    (MAX_POSITIONS < e.marks) | ((MAX_POSITIONS < e.unconverted) | (MAX_POSITIONS < e.converted))
-}
-
-// Row 8's condition for an annotation.
-fn evidence_ragged(e: EvidenceLengths) -> bool
-    ensures { λ r. ⌜ r ≡ evidenceRagged e ⌝ }
-{
-    (e.unconverted != e.marks) | (e.converted != e.marks)
-}
-
-// Row 12's condition for outputs to which n positions go.
-fn evidence_too_short(n: usize, out: EvidenceLengths) -> bool
-    ensures { λ r. ⌜ r ≡ evidenceTooShort n out ⌝ }
-{
-    (out.marks < n) | ((out.unconverted < n) | (out.converted < n))
-}
-
 fn gate_refusal(lengths: EvidenceLengths) -> u8
     ensures { λ r. ⌜ r ≡ refusal (gateFaults lengths) ⌝ }
 {
@@ -71,7 +47,7 @@ fn gate_refusal(lengths: EvidenceLengths) -> u8
 
 fn gate(marks: &mut [u8], unconverted: &mut [u32], converted: &mut [u32])
     requires { ⌜ (length (now unconverted) ≡ length (now marks)) × (length (now converted) ≡ length (now marks)) ⌝ }
-    ensures { λ _. ⌜ EvidenceLeaves 0
+    ensures { λ _. ⌜ LeavesEvidence 0
         (gated (evidenceArrays (now (marks .entry)) (now (unconverted .entry)) (now (converted .entry))))
         (evidenceArrays (now (marks .entry)) (now (unconverted .entry)) (now (converted .entry)))
         (evidenceArrays (now (marks .exit)) (now (unconverted .exit)) (now (converted .exit))) ⌝ }
@@ -145,7 +121,7 @@ fn write_truncated(
     requires { ⌜ (n ≤ length (now marks)) × (n ≤ length (now «marks_out»)) ⌝ }
     requires { ⌜ (n ≤ length (now unconverted)) × (n ≤ length (now «unconverted_out»)) ⌝ }
     requires { ⌜ (n ≤ length (now converted)) × (n ≤ length (now «converted_out»)) ⌝ }
-    ensures { λ _. ⌜ EvidenceLeaves 0
+    ensures { λ _. ⌜ LeavesEvidence 0
         (truncated n (evidenceArrays (now (marks .entry)) (now (unconverted .entry)) (now (converted .entry))))
         (evidenceArrays (now («marks_out» .entry)) (now («unconverted_out» .entry)) (now («converted_out» .entry)))
         (evidenceArrays (now («marks_out» .exit)) (now («unconverted_out» .exit)) (now («converted_out» .exit))) ⌝ }

@@ -25,7 +25,7 @@ use Rattle.methylation.specs.declared.Annotation.{Annotation}
 use Rattle.methylation.specs.declared.Annotation.the-variants.{Absent, Of}
 use Rattle.methylation.specs.declared.ConversionPattern.{ConversionPattern}
 use Rattle.methylation.specs.declared.PatternBases.{PatternBases}
-use Rattle.methylation_evidence.specs.Arrays.{informative}
+use Rattle.methylation.specs.Arrays.{informative}
 use Rattle.methylation_restore.specs.Restore.{restoredBase, restoredAt, restoredTo, restored, strandBases, strandFaults}
 
 module _ (letters : PatternBases) (mark base : ℕ) {same : Bool} (is : same ≡ sameLetter base (letters .converted)) where

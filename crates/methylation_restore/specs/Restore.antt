@@ -11,7 +11,7 @@ use Rattle.methylation.specs.declared.Annotation.{Annotation}
 use Rattle.methylation.specs.declared.Annotation.the-variants.{Absent, Of}
 use Rattle.methylation.specs.declared.ConversionPattern.{ConversionPattern}
 use Rattle.methylation.specs.declared.PatternBases.{PatternBases}
-use Rattle.methylation_evidence.specs.Arrays.{informative}
+use Rattle.methylation.specs.Arrays.{informative}
 
 -- At an informative position the converted base, in any case, becomes the unconverted letter. Every other base stays.
 unfoldable pub restoredBase : PatternBases → ℕ → ℕ → ℕ

@@ -4,7 +4,7 @@
 --     turned-down, passed-on        what is promised of a call, by its test and what was written
 -- Assumes nothing.
 use mathlib.Core.Path.{_≡_, refl, sym, ap, subst, _∙_}
-use mathlib.Core.Bool.{Bool, true, false, _&&_, _||_}
+use mathlib.Core.Bool.{Bool, true, false}
 use mathlib.Core.List.{List, [], _∷_}
 use Prim.Native.Nat.{ℕ, _/_, _≤_}
 use native.Mathlib.Omega.{arith}
@@ -13,13 +13,13 @@ use lib.ListN.{length, take, length-take}
 use lib.Seq.{take-all}
 use Rattle.lists.specs.Output.{put}
 use Rattle.lists.proofs.Output.{answer-refused, answer-passed, after-refused, after-passed}
-use Rattle.refusals.specs.Refusal.{_if_, tooShort, refusal}
-use Rattle.refusals.proofs.Condition.{nor-where, not-too-short}
+use Rattle.refusals.specs.Refusal.{_if_, refusal}
 use Rattle.byte_numbers.specs.Bytes.{numberOf, bytes16}
 use Rattle.byte_numbers.proofs.Groups.{length-by-group}
 use Rattle.evidence_bytes.specs.Evidence.{markIn, countIn, evidenceBytes}
 use Rattle.duplex_outputs.specs.Outputs.{RecordArrays, recordLengths, recordTooShort}
 use Rattle.duplex_outputs.specs.declared.RecordLengths.{RecordLengths}
+use Rattle.duplex_outputs.proofs.Outputs.{roomy}
 use Rattle.duplex_kind.specs.declared.DuplexConsensus.{DuplexConsensus}
 use Rattle.duplex_kind.specs.declared.DuplexConsensus.the-variants.{Refused}
 use Rattle.record_bytes.specs.Outputs.{RecordBytes, asArrays, LeavesBytes, shortFor, outputsRefused, evidencePlaces, fronts, WrittenAs, positionsIn}
@@ -60,29 +60,22 @@ record Room (w : Written) (out : RecordLengths) : Type 0 where
   bases : w .positions ≤ out .bases
   quals : w .positions ≤ out .quals
   errors : w .positions ≤ out .errors
-  evidenceA : evidencePlaces (w .first) (w .positions) ≤ out .marksA
-  evidenceB : evidencePlaces (w .second) (w .positions) ≤ out .marksB
+  evidenceA : evidencePlaces (w .first) (w .positions) ≤ out .a .marks
+  evidenceB : evidencePlaces (w .second) (w .positions) ≤ out .b .marks
 
 places-fit : (there : Bool) {n k : ℕ} → (there ≡ true → n ≤ k) → evidencePlaces there n ≤ k
 places-fit true h = h refl
 places-fit false h = zero≤
 
-roomy : (w : Written) (out : RecordLengths) → recordTooShort (w .positions) (w .first) (w .second) out ≡ false → Room w out
-unfolding recordTooShort
-roomy w out h =
-    let n = w .positions in
-    let a = out .marksA ∷ out .unconvertedA ∷ out .convertedA ∷ [] in
-    let b = out .marksB ∷ out .unconvertedB ∷ out .convertedB ∷ [] in
-    let own = out .bases ∷ out .quals ∷ out .errors ∷ [] in
-    let (enough, others) = nor-where (tooShort n own) true ((w .first && tooShort n a) || (w .second && tooShort n b)) h in
-    let (first, second) = nor-where (w .first && tooShort n a) (w .second) (tooShort n b) (others refl) in
-    let all = not-too-short n own enough in
+room-for : (w : Written) (out : RecordLengths) → recordTooShort (w .positions) (w .first) (w .second) out ≡ false → Room w out
+room-for w out h =
+    let r = roomy (w .positions) (w .first) (w .second) out h in
     record {
-      bases = all .0;
-      quals = all .1 .0;
-      errors = all .1 .1 .0;
-      evidenceA = places-fit (w .first) (λ e. not-too-short n a (nor-where false (w .first) (tooShort n a) first .1 e) .0);
-      evidenceB = places-fit (w .second) (λ e. not-too-short n b (second e) .0);
+      bases = r .own .0;
+      quals = r .own .1 .0;
+      errors = r .own .1 .1 .0;
+      evidenceA = places-fit (w .first) (λ e. r .a e .0);
+      evidenceB = places-fit (w .second) (λ e. r .b e .0);
     }
 
 -- What was written, as far as there was room.
@@ -91,9 +84,9 @@ pub record Wrote (w : Written) (arrays : RecordArrays) (before now : RecordBytes
   pub quals : now .quals ≡ put (take (length (before .quals)) (fronts w arrays .quals)) (before .quals)
   pub errors : now .errors ≡ put (bytes16 (take (length (before .errors) / 2) (fronts w arrays .errors))) (before .errors)
   pub evidenceA :
-      now .evidenceA ≡ put (evidenceBytes (take (length (before .evidenceA) / 9) (fronts w arrays .marksA)) (fronts w arrays .unconvertedA) (fronts w arrays .convertedA)) (before .evidenceA)
+      now .evidenceA ≡ put (evidenceBytes (take (length (before .evidenceA) / 9) (fronts w arrays .a .marks)) (fronts w arrays .a .unconverted) (fronts w arrays .a .converted)) (before .evidenceA)
   pub evidenceB :
-      now .evidenceB ≡ put (evidenceBytes (take (length (before .evidenceB) / 9) (fronts w arrays .marksB)) (fronts w arrays .unconvertedB) (fronts w arrays .convertedB)) (before .evidenceB)
+      now .evidenceB ≡ put (evidenceBytes (take (length (before .evidenceB) / 9) (fronts w arrays .b .marks)) (fronts w arrays .b .unconverted) (fronts w arrays .b .converted)) (before .evidenceB)
 
 -- There was room for all of it.
 all-of : (n : ℕ) (xs : List ℕ) {k : ℕ} → n ≤ k → take k (take n xs) ≡ take n xs
@@ -124,7 +117,7 @@ module _ (arrays : RecordArrays) (before : RecordBytes) {made : DuplexConsensus}
   unfolding positionsIn
   passed-on {now} e f g t x =
       let number : 0 ≡ outputsRefused w before = is-0 (sym (is-short w before f g) ∙ t) in
-      let fit = roomy w (held before) (rw f at (sym g ∙ t)) in
+      let fit = room-for w (held before) (rw f at (sym g ∙ t)) in
       let a = evidencePlaces (w .first) (w .positions) in
       let b = evidencePlaces (w .second) (w .positions) in
       subst (λ (y : Written). WrittenAs y made arrays before now made) e
@@ -136,11 +129,11 @@ module _ (arrays : RecordArrays) (before : RecordBytes) {made : DuplexConsensus}
           errors = x .errors ∙ ap (λ (l : List ℕ). put (bytes16 l) (before .errors)) (all-of (w .positions) (arrays .errors) (fit .errors)) ∙ after-passed _ _ number refl;
           evidenceA =
               x .evidenceA
-              ∙ ap (λ (l : List ℕ). put (evidenceBytes l (take a (arrays .unconvertedA)) (take a (arrays .convertedA))) (before .evidenceA)) (all-of a (arrays .marksA) (fit .evidenceA))
+              ∙ ap (λ (l : List ℕ). put (evidenceBytes l (take a (arrays .a .unconverted)) (take a (arrays .a .converted))) (before .evidenceA)) (all-of a (arrays .a .marks) (fit .evidenceA))
               ∙ after-passed _ _ number refl;
           evidenceB =
               x .evidenceB
-              ∙ ap (λ (l : List ℕ). put (evidenceBytes l (take b (arrays .unconvertedB)) (take b (arrays .convertedB))) (before .evidenceB)) (all-of b (arrays .marksB) (fit .evidenceB))
+              ∙ ap (λ (l : List ℕ). put (evidenceBytes l (take b (arrays .b .unconverted)) (take b (arrays .b .converted))) (before .evidenceB)) (all-of b (arrays .b .marks) (fit .evidenceB))
               ∙ after-passed _ _ number refl;
         };
       }

@@ -6,6 +6,7 @@ use mathlib.Core.List.{List, [], _∷_}
 use lib.ListN.{take}
 use Rattle.lists.specs.Output.{answer, after}
 use Rattle.refusals.specs.Refusal.{_if_, refusal}
+use Rattle.methylation.specs.Arrays.{EvidenceArrays, evidenceArrays}
 use Rattle.byte_numbers.specs.Bytes.{words16, bytes16}
 use Rattle.evidence_bytes.specs.Evidence.{marksOf, unconvertedOf, convertedOf, evidenceBytes}
 use Rattle.duplex_outputs.specs.Outputs.{RecordArrays, recordOf, recordLengths, recordTooShort}
@@ -28,8 +29,8 @@ recordBytes bases quals errors evidenceA evidenceB = record { bases = bases; qua
 -- The bytes of a record's arrays.
 abbrev pub asBytes : RecordArrays → RecordBytes
 asBytes r =
-    recordBytes (r .bases) (r .quals) (bytes16 (r .errors)) (evidenceBytes (r .marksA) (r .unconvertedA) (r .convertedA))
-    (evidenceBytes (r .marksB) (r .unconvertedB) (r .convertedB))
+    recordBytes (r .bases) (r .quals) (bytes16 (r .errors)) (evidenceBytes (r .a .marks) (r .a .unconverted) (r .a .converted))
+    (evidenceBytes (r .b .marks) (r .b .unconverted) (r .b .converted))
 
 -- The arrays that some bytes are: outputs of so many bytes hold so many numbers.
 unfoldable pub asArrays : RecordBytes → RecordArrays
@@ -68,14 +69,21 @@ outputsRefused w out = refusal ((12 if shortFor w (asArrays out)) ∷ [])
 abbrev pub evidencePlaces : Bool → ℕ → ℕ
 evidencePlaces there n = cond there n 0
 
+-- The first so many positions of evidence.
+abbrev pub evidenceFronts : ℕ → EvidenceArrays → EvidenceArrays
+evidenceFronts n e = evidenceArrays (take n (e .marks)) (take n (e .unconverted)) (take n (e .converted))
+
 -- What is written of some arrays: so many positions.
 abbrev pub fronts : Written → RecordArrays → RecordArrays
 fronts w r =
     let n = w .positions in
-    let a = evidencePlaces (w .first) n in
-    let b = evidencePlaces (w .second) n in
-    recordOf (take n (r .bases)) (take n (r .quals)) (take n (r .errors)) (take a (r .marksA)) (take a (r .unconvertedA)) (take a (r .convertedA))
-    (take b (r .marksB)) (take b (r .unconvertedB)) (take b (r .convertedB))
+    record {
+      bases = take n (r .bases);
+      quals = take n (r .quals);
+      errors = take n (r .errors);
+      a = evidenceFronts (evidencePlaces (w .first) n) (r .a);
+      b = evidenceFronts (evidencePlaces (w .second) n) (r .b);
+    }
 
 -- What a call answers and leaves, given the answer of the call that made these arrays and what it writes of them.
 pub record WrittenAs (w : Written) (made : DuplexConsensus) (arrays : RecordArrays) (before now : RecordBytes) (r : DuplexConsensus) : Type 0 where
@@ -88,10 +96,6 @@ positionsIn bases quals errors a b = record {
   bases = bases;
   quals = quals;
   errors = errors / 2;
-  marksA = a / 9;
-  unconvertedA = a / 9;
-  convertedA = a / 9;
-  marksB = b / 9;
-  unconvertedB = b / 9;
-  convertedB = b / 9;
+  a = record { marks = a / 9; unconverted = a / 9; converted = a / 9 };
+  b = record { marks = b / 9; unconverted = b / 9; converted = b / 9 };
 }

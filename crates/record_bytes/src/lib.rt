@@ -1,5 +1,5 @@
 // A duplex record as bytes: its arrays, written to lent outputs of bytes as far as the record goes. It owns the layout of those
-// outputs and row 12 for them. Uses lists, refusals, byte_numbers, evidence_bytes, duplex_outputs and duplex_kind.
+// outputs and row 12 for them. Uses lists, refusals, methylation, byte_numbers, evidence_bytes, duplex_outputs and duplex_kind.
 ghost use mathlib.Core.Path.{_≡_};
 ghost use Prim.Native.Nat.{_/_};
 ghost use lib.ListN.{length, take};
@@ -18,6 +18,7 @@ use lists::copy_u8;
 use lists::front_u8;
 use lists::front_u16;
 use lists::front_u32;
+use methylation::EvidenceLengths;
 use refusals::OUTPUT_TOO_SHORT;
 
 // How many positions are written, and whether evidence of the first strand and of the second.
@@ -75,12 +76,16 @@ fn positions_in(
         bases,
         quals,
         errors: errors / 2,
-        marksA: a,
-        unconvertedA: a,
-        convertedA: a,
-        marksB: b,
-        unconvertedB: b,
-        convertedB: b,
+        a: EvidenceLengths {
+            marks: a,
+            unconverted: a,
+            converted: a,
+        },
+        b: EvidenceLengths {
+            marks: b,
+            unconverted: b,
+            converted: b,
+        },
     }
 }
 

@@ -17,16 +17,17 @@ use lib.Dec.{eqb}
 use lib.ListN.{length, getD}
 use Rattle.lists.specs.Output.{answer, after}
 use Rattle.refusals.specs.Refusal.{refusal}
+use Rattle.methylation.specs.Arrays.{EvidenceArrays, evidenceArrays, evidenceLengths, three, LeavesEvidence}
 use Rattle.methylation.specs.Methylation.{patternBases}
 use Rattle.source_reads.specs.Reads.{none, readLeaves, anyLeaves}
 use Rattle.source_reads.specs.declared.SourceRead.{SourceRead}
-use Rattle.simplex_methylation.specs.Simplex.{Setting, Outputs, outputs, lengths, marksOf, Below, simplexFaults, Leaves, evidence, BegunAs, AddedAs, AnnotatedAs}
+use Rattle.simplex_methylation.specs.Simplex.{Setting, marksOf, Below, simplexFaults, evidence, BegunAs, AddedAs, AnnotatedAs}
 use Rattle.simplex_methylation.specs.declared.SimplexMethylation.{SimplexMethylation}
 use Rattle.simplex_methylation.specs.declared.SimplexMethylation.the-variants.{Refused, Written}
 use Rattle.simplex_methylation.proofs.Room.{Room, room}
 use Rattle.simplex_methylation.proofs.Running.{Running, begun, ready, added-next, whole, inside}
 
-module _ (s : Setting) (ys : List SourceRead) (n : ℕ) (before : Outputs) where
+module _ (s : Setting) (ys : List SourceRead) (n : ℕ) (before : EvidenceArrays) where
   abbrev unconverted-letter : ℕ
   unconverted-letter = patternBases (s .pattern) .unconverted
 
@@ -35,7 +36,7 @@ module _ (s : Setting) (ys : List SourceRead) (n : ℕ) (before : Outputs) where
 
   pub record Known (leaving : Bool) (number many : ℕ) (ms : List ℕ) : Type 0 where
     pub leaves : leaving ≡ anyLeaves (length (s .bytes)) ys
-    pub refused : number ≡ refusal (simplexFaults n (length ys) leaving (lengths before))
+    pub refused : number ≡ refusal (simplexFaults n (length ys) leaving (three (evidenceLengths before)))
     pub marks : ms ≡ after number (marksOf (patternBases (s .pattern) .reference) (s .reference) n) (before .marks)
     pub many-are : many ≡ cond (eqb number 0) (length ys) 0
 
@@ -48,7 +49,7 @@ module _ (s : Setting) (ys : List SourceRead) (n : ℕ) (before : Outputs) where
 
   pub first-turn :
       {leaving : Bool} {number many : ℕ} {ms us cs : List ℕ}
-      → BegunAs (patternBases (s .pattern) .reference) (s .reference) n (length ys) leaving before (outputs ms us cs) number
+      → BegunAs (patternBases (s .pattern) .reference) (s .reference) n (length ys) leaving before (evidenceArrays ms us cs) number
       → length us ≡ length (before .unconverted)
       → length cs ≡ length (before .converted)
       → Turn number many 0 us cs
@@ -112,13 +113,13 @@ module _ (s : Setting) (ys : List SourceRead) (n : ℕ) (before : Outputs) where
             (added-next s converted-letter ys n (before .converted) now-converted (free .1) (fits .outs .2) (a .convertedOnes));
       }
 
-    pub told : {r : SimplexMethylation} → many ≤ i → r ≡ answer Refused number (Written n) → AnnotatedAs s ys n before (outputs ms us cs) r
+    pub told : {r : SimplexMethylation} → many ≤ i → r ≡ answer Refused number (Written n) → AnnotatedAs s ys n before (evidenceArrays ms us cs) r
     told {r} o e =
         let all : cond (eqb number 0) (length ys) 0 ≤ i = omega (arith, k .many-are, o) in
-        let number-is : number ≡ refusal (simplexFaults n (length ys) (anyLeaves (length (s .bytes)) ys) (lengths before)) = rw (k .leaves) at (k .refused) in
+        let number-is : number ≡ refusal (simplexFaults n (length ys) (anyLeaves (length (s .bytes)) ys) (three (evidenceLengths before))) = rw (k .leaves) at (k .refused) in
         record {
           answered = e ∙ ap (λ (m : ℕ). answer Refused m (Written n)) number-is;
-          left = subst (λ (m : ℕ). Leaves m (evidence s ys n) before (outputs ms us cs)) number-is (record {
+          left = subst (λ (m : ℕ). LeavesEvidence m (evidence s ys n) before (evidenceArrays ms us cs)) number-is (record {
             marks = k .marks;
             unconverted = whole s unconverted-letter ys n (before .unconverted) (t .unconverted) all;
             converted = whole s converted-letter ys n (before .converted) (t .converted) all;

@@ -6,10 +6,11 @@ use mathlib.Core.List.{List, [], _∷_}
 use lib.Dec.{eqb}
 use lib.ListN.{length, getD, replicate}
 use Rattle.lists.specs.Count.{countOf}
-use Rattle.lists.specs.Output.{answer, put, after}
+use Rattle.lists.specs.Output.{answer, put}
 use Rattle.lists.specs.Table.{tabulate}
 use Rattle.refusals.specs.Refusal.{Fault, _if_, tooLong, tooMany, tooShort, refusal}
 use Rattle.dna.specs.Dna.{upper}
+use Rattle.methylation.specs.Arrays.{EvidenceArrays, evidenceArrays, evidenceLengths, three, LeavesEvidence}
 use Rattle.methylation.specs.Methylation.{patternBases}
 use Rattle.methylation.specs.declared.ConversionPattern.{ConversionPattern}
 use Rattle.source_reads.specs.Reads.{reaches, anyLeaves}
@@ -81,38 +82,20 @@ simplexFaults n reads leaving outs =
     ∷ (12 if tooShort n outs)
     ∷ []
 
--- The three outputs.
-pub record Outputs : Type 0 where
-  pub marks : List ℕ
-  pub unconverted : List ℕ
-  pub converted : List ℕ
-
-abbrev pub outputs : List ℕ → List ℕ → List ℕ → Outputs
-outputs marks unconverted converted = record { marks = marks; unconverted = unconverted; converted = converted }
-
-abbrev pub lengths : Outputs → List ℕ
-lengths o = length (o .marks) ∷ length (o .unconverted) ∷ length (o .converted) ∷ []
-
--- What the outputs hold after a call that was refused with a number and would write these lists.
-pub record Leaves (number : ℕ) (written before now : Outputs) : Type 0 where
-  pub marks : now .marks ≡ after number (written .marks) (before .marks)
-  pub unconverted : now .unconverted ≡ after number (written .unconverted) (before .unconverted)
-  pub converted : now .converted ≡ after number (written .converted) (before .converted)
-
 -- The marks and counts of n positions.
-abbrev pub evidence : Setting → List SourceRead → ℕ → Outputs
+abbrev pub evidence : Setting → List SourceRead → ℕ → EvidenceArrays
 evidence s reads n =
     let letters = patternBases (s .pattern) in
-    outputs (marksOf (letters .reference) (s .reference) n) (countsOf s (letters .unconverted) reads n) (countsOf s (letters .converted) reads n)
+    evidenceArrays (marksOf (letters .reference) (s .reference) n) (countsOf s (letters .unconverted) reads n) (countsOf s (letters .converted) reads n)
 
 -- What the outputs are before the first read is counted: marked, and without counts.
-abbrev pub uncounted : ℕ → List ℕ → ℕ → Outputs
-uncounted letter reference n = outputs (marksOf letter reference n) (replicate n 0) (replicate n 0)
+abbrev pub uncounted : ℕ → List ℕ → ℕ → EvidenceArrays
+uncounted letter reference n = evidenceArrays (marksOf letter reference n) (replicate n 0) (replicate n 0)
 
 -- What a call of `begin_annotation` answers and leaves.
-pub record BegunAs (letter : ℕ) (reference : List ℕ) (n reads : ℕ) (leaving : Bool) (before now : Outputs) (r : ℕ) : Type 0 where
-  pub answered : r ≡ refusal (simplexFaults n reads leaving (lengths before))
-  pub left : Leaves r (uncounted letter reference n) before now
+pub record BegunAs (letter : ℕ) (reference : List ℕ) (n reads : ℕ) (leaving : Bool) (before now : EvidenceArrays) (r : ℕ) : Type 0 where
+  pub answered : r ≡ refusal (simplexFaults n reads leaving (three (evidenceLengths before)))
+  pub left : LeavesEvidence r (uncounted letter reference n) before now
 
 -- What a call of `add_read` leaves of the two counts.
 pub record AddedAs (s : Setting) (read : SourceRead) (n : ℕ) (unconverted converted unconverted′ converted′ : List ℕ) : Type 0 where
@@ -120,10 +103,10 @@ pub record AddedAs (s : Setting) (read : SourceRead) (n : ℕ) (unconverted conv
   pub convertedOnes : converted′ ≡ put (added n (λ i. shown s (patternBases (s .pattern) .converted) i read) converted) converted
 
 -- The number of a call's refusal.
-abbrev pub simplexRefused : Setting → List SourceRead → ℕ → Outputs → ℕ
-simplexRefused s reads n before = refusal (simplexFaults n (length reads) (anyLeaves (length (s .bytes)) reads) (lengths before))
+abbrev pub simplexRefused : Setting → List SourceRead → ℕ → EvidenceArrays → ℕ
+simplexRefused s reads n before = refusal (simplexFaults n (length reads) (anyLeaves (length (s .bytes)) reads) (three (evidenceLengths before)))
 
 -- What a call of `annotate_simplex_methylation` answers and leaves.
-pub record AnnotatedAs (s : Setting) (reads : List SourceRead) (n : ℕ) (before now : Outputs) (r : SimplexMethylation) : Type 0 where
+pub record AnnotatedAs (s : Setting) (reads : List SourceRead) (n : ℕ) (before now : EvidenceArrays) (r : SimplexMethylation) : Type 0 where
   pub answered : r ≡ answer Refused (simplexRefused s reads n before) (Written n)
-  pub left : Leaves (simplexRefused s reads n before) (evidence s reads n) before now
+  pub left : LeavesEvidence (simplexRefused s reads n before) (evidence s reads n) before now

@@ -9,7 +9,8 @@ ghost use Rattle.lists.specs.Output.{answer, put};
 ghost use Rattle.refusals.specs.Refusal.{refusal};
 ghost use Rattle.methylation.specs.Methylation.{patternBases};
 ghost use Rattle.source_reads.specs.Reads.{readLeaves, anyLeaves};
-ghost use Rattle.simplex_methylation.specs.Simplex.{setting, outputs, isLetter, baseIs, looked, marksOf, added, Below, simplexFaults, BegunAs, AddedAs, AnnotatedAs};
+ghost use Rattle.methylation.specs.Arrays.{evidenceArrays};
+ghost use Rattle.simplex_methylation.specs.Simplex.{setting, isLetter, baseIs, looked, marksOf, added, Below, simplexFaults, BegunAs, AddedAs, AnnotatedAs};
 ghost use Rattle.simplex_methylation.specs.declared.SimplexMethylation.the-variants.{Refused, Written};
 use dna::to_ascii_uppercase;
 use lists::at_u8;
@@ -122,8 +123,8 @@ fn begin_annotation(
     converted_out: &mut [u32],
 ) -> u8
     ensures { λ r. ⌜ BegunAs (patternBases pattern .reference) (now (reference .entry)) «consensus_len» reads leaving
-        (outputs (now («marks_out» .entry)) (now («unconverted_out» .entry)) (now («converted_out» .entry)))
-        (outputs (now («marks_out» .exit)) (now («unconverted_out» .exit)) (now («converted_out» .exit)))
+        (evidenceArrays (now («marks_out» .entry)) (now («unconverted_out» .entry)) (now («converted_out» .entry)))
+        (evidenceArrays (now («marks_out» .exit)) (now («unconverted_out» .exit)) (now («converted_out» .exit)))
         r ⌝ }
 {
     let number = simplex_refusal(
@@ -303,8 +304,8 @@ pub fn annotate_simplex_methylation(
     converted_out: &mut [u32],
 ) -> SimplexMethylation
     ensures { λ r. ⌜ AnnotatedAs (setting pattern (now (bytes .entry)) (now (reference .entry)) (now (aligned .entry)) «count_all_positions») (now (reads .entry)) «consensus_len»
-        (outputs (now («marks_out» .entry)) (now («unconverted_out» .entry)) (now («converted_out» .entry)))
-        (outputs (now («marks_out» .exit)) (now («unconverted_out» .exit)) (now («converted_out» .exit)))
+        (evidenceArrays (now («marks_out» .entry)) (now («unconverted_out» .entry)) (now («converted_out» .entry)))
+        (evidenceArrays (now («marks_out» .exit)) (now («unconverted_out» .exit)) (now («converted_out» .exit)))
         r ⌝ }
 {
     let leaving = any_part_leaves(reads, bytes.len());

@@ -15,7 +15,8 @@ use Rattle.duplex_tags.specs.Tags.{CountArrays}
 use Rattle.duplex_tags.specs.Outputs.{DuplexTaggedAs}
 use Rattle.duplex_tags.specs.declared.DuplexMethylationTags.{DuplexMethylationTags}
 use Rattle.source_reads.specs.declared.SourceRead.{SourceRead}
-use Rattle.simplex_methylation.specs.Simplex.{setting, Outputs, AnnotatedAs}
+use Rattle.methylation.specs.Arrays.{EvidenceArrays}
+use Rattle.simplex_methylation.specs.Simplex.{setting, AnnotatedAs}
 use Rattle.simplex_methylation.specs.declared.SimplexMethylation.{SimplexMethylation}
 use Rattle.test_interface.specs.declared.Reply.{Reply}
 use Rattle.test_methylation_interface.specs.Replies.{simplexReply, mmMlReply, mmReply, duplexTagsReply, RepliedAs}
@@ -61,7 +62,7 @@ duplex-replied {one = one} {other = other} {told-other} {told-mode = told-mode} 
     record { told = answer; answered = q; outputs = all }
 
 pub simplex-replied :
-    {pattern told-pattern : ConversionPattern} {bytes reference aligned : List ℕ} {everywhere : Bool} {reads : List SourceRead} {n : ℕ} {before now : Outputs} {answer : SimplexMethylation} {r : Reply}
+    {pattern told-pattern : ConversionPattern} {bytes reference aligned : List ℕ} {everywhere : Bool} {reads : List SourceRead} {n : ℕ} {before now : EvidenceArrays} {answer : SimplexMethylation} {r : Reply}
     → told-pattern ≡ pattern
     → AnnotatedAs (setting told-pattern bytes reference aligned everywhere) reads n before now answer
     → r ≡ simplexReply answer

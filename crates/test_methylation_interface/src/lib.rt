@@ -4,7 +4,7 @@
 ghost use mathlib.Core.Path.{_≡_};
 ghost use lib.ListN.{length};
 ghost use Rattle.lists.specs.Output.{answer, after};
-ghost use Rattle.methylation_evidence.specs.Arrays.{evidenceArrays};
+ghost use Rattle.methylation.specs.Arrays.{evidenceArrays};
 ghost use Rattle.methylation_evidence.specs.Counts.{tagCounts, countsRefused, summedCounts, summedRefused};
 ghost use Rattle.methylation_evidence.specs.Gate.{GatedAs};
 ghost use Rattle.methylation_evidence.specs.Truncate.{TruncatedAs};
@@ -14,7 +14,7 @@ ghost use Rattle.mm_ml.specs.Tags.{annotated, TaggedAs, MmTaggedAs};
 ghost use Rattle.duplex_texts.specs.Texts.{strand, textArrays};
 ghost use Rattle.duplex_tags.specs.Tags.{countArrays};
 ghost use Rattle.duplex_tags.specs.Outputs.{DuplexTaggedAs};
-ghost use Rattle.simplex_methylation.specs.Simplex.{setting, outputs, AnnotatedAs};
+ghost use Rattle.simplex_methylation.specs.Simplex.{setting, AnnotatedAs};
 ghost use Rattle.test_interface.specs.Replies.{annotationOf};
 ghost use Rattle.test_methylation_interface.specs.Replies.{patternOf, modeOf, positionsReply, simplexReply, mmMlReply, mmReply, duplexTagsReply, RepliedAs};
 use duplex_tags::DuplexMethylationTags;
@@ -421,8 +421,8 @@ pub extern "C" fn gedrashiw_test_annotate_simplex_methylation(
 ) -> Reply
     ensures { λ r. ⌜ RepliedAs simplexReply
         (AnnotatedAs (setting (patternOf pattern) (now (bytes .entry)) (now (reference .entry)) (now (aligned .entry)) «count_all_positions») (now (reads .entry)) «consensus_len»
-        (outputs (now («marks_out» .entry)) (now («unconverted_out» .entry)) (now («converted_out» .entry)))
-        (outputs (now («marks_out» .exit)) (now («unconverted_out» .exit)) (now («converted_out» .exit))))
+        (evidenceArrays (now («marks_out» .entry)) (now («unconverted_out» .entry)) (now («converted_out» .entry)))
+        (evidenceArrays (now («marks_out» .exit)) (now («unconverted_out» .exit)) (now («converted_out» .exit))))
         r ⌝ }
 {
     let told = pattern_of(pattern);

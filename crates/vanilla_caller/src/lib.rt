@@ -1,10 +1,15 @@
 // The strand, from vanilla_caller.rs: a single-strand consensus as lent slices (bases, qualities, depths and errors, and perhaps
-// an annotation's marks and counts), what refuses it, and its depths. Uses lists, refusals and numbers.
+// an annotation's evidence), what refuses it, and its depths. Uses lists, refusals, numbers and methylation.
 ghost use mathlib.Core.Path.{_≡_};
 ghost use Rattle.numbers.specs.Numbers.{largest, smallest};
 ghost use Rattle.vanilla_caller.specs.Depth.{maxDepth, minDepth};
-ghost use Rattle.vanilla_caller.specs.Strand.{mark, strandTooLong, strandRagged, outputsTooShort};
+ghost use Rattle.vanilla_caller.specs.Strand.{arrays, lengths, mark, strandTooLong, strandRagged, outputsTooShort};
 use lists::at_u16;
+use methylation::EvidenceLengths;
+use methylation::evidence_lengths;
+use methylation::evidence_too_long;
+use methylation::evidence_too_short;
+use methylation::evidence_uneven;
 use numbers::max_u16;
 use numbers::min_u16;
 use refusals::MAX_POSITIONS;
@@ -22,9 +27,28 @@ pub struct Lengths {
     pub quals: usize,
     pub depths: usize,
     pub errors: usize,
-    pub marks: usize,
-    pub unconverted: usize,
-    pub converted: usize,
+    pub evidence: EvidenceLengths,
+}
+
+pub fn lengths_of(
+    bases: &[u8],
+    quals: &[u8],
+    depths: &[u16],
+    errors: &[u16],
+    marks: &[u8],
+    unconverted: &[u32],
+    converted: &[u32],
+) -> Lengths
+    ensures { λ r. ⌜ r ≡ lengths (arrays (now (bases .entry)) (now (quals .entry)) (now (depths .entry)) (now (errors .entry)) (now (marks .entry)) (now (unconverted .entry)) (now (converted .entry))) ⌝ }
+{
+    let evidence = evidence_lengths(marks, unconverted, converted);
+    Lengths {
+        bases: bases.len(),
+        quals: quals.len(),
+        depths: depths.len(),
+        errors: errors.len(),
+        evidence,
+    }
 }
 
 fn largest_depth(depths: &[u16]) -> u16
@@ -79,9 +103,8 @@ pub fn strand_too_long(annotated: bool, s: Lengths) -> bool
 {
     let four = (MAX_POSITIONS < s.bases)
         | ((MAX_POSITIONS < s.quals) | ((MAX_POSITIONS < s.depths) | (MAX_POSITIONS < s.errors)));
-    let evidence = (MAX_POSITIONS < s.marks)
-        | ((MAX_POSITIONS < s.unconverted) | (MAX_POSITIONS < s.converted));
-    four | (annotated & evidence)
+    let evidence = s.evidence;
+    four | (annotated & evidence_too_long(evidence))
 }
 
 // Row 8's condition for a strand.
@@ -90,8 +113,8 @@ pub fn strand_ragged(annotated: bool, s: Lengths) -> bool
 {
     let n = s.bases;
     let four = (s.quals != n) | ((s.depths != n) | (s.errors != n));
-    let evidence = (s.marks != n) | ((s.unconverted != n) | (s.converted != n));
-    four | (annotated & evidence)
+    let evidence = s.evidence;
+    four | (annotated & evidence_uneven(n, evidence))
 }
 
 // Row 12's condition for outputs to which a strand of n positions goes, with evidence or without.
@@ -99,8 +122,8 @@ pub fn outputs_too_short(n: usize, annotated: bool, out: Lengths) -> bool
     ensures { λ r. ⌜ r ≡ outputsTooShort n annotated out ⌝ }
 {
     let four = (out.bases < n) | ((out.quals < n) | ((out.depths < n) | (out.errors < n)));
-    let evidence = (out.marks < n) | ((out.unconverted < n) | (out.converted < n));
-    four | (annotated & evidence)
+    let evidence = out.evidence;
+    four | (annotated & evidence_too_short(n, evidence))
 }
 
 // An informative mark as it is written: 0 no, any other byte yes.

@@ -11,6 +11,7 @@ use Rattle.lists.specs.Part.{onlyIf}
 use Rattle.refusals.specs.Refusal.{Fault, _if_, tooLong, refusal}
 use Rattle.dna.specs.Dna.{lowerN}
 use Rattle.phred.specs.Phred.{minPhred}
+use Rattle.methylation.specs.Arrays.{evidenceArrays}
 use Rattle.methylation.specs.Methylation.{isAnnotated}
 use Rattle.methylation.specs.declared.Annotation.{Annotation}
 use Rattle.methylation.specs.declared.Annotation.the-variants.{Absent}
@@ -55,9 +56,7 @@ paddedArrays annotation s p =
       quals = pad (p .qual) (s .quals);
       depths = pad 0 (s .depths);
       errors = pad 0 (s .errors);
-      marks = map mark (onlyIf evidence (s .marks));
-      unconverted = onlyIf evidence (s .unconverted);
-      converted = onlyIf evidence (s .converted);
+      evidence = evidenceArrays (map mark (onlyIf evidence (s .evidence .marks))) (onlyIf evidence (s .evidence .unconverted)) (onlyIf evidence (s .evidence .converted));
     }
 
 -- The strand's annotation and the lengths of its arrays, the length to pad to, and the lengths of the outputs.

@@ -15,6 +15,7 @@ use lists::copy_u32;
 use lists::fill_u8;
 use lists::fill_u16;
 use methylation::Annotation;
+use methylation::EvidenceLengths;
 use methylation::is_annotated;
 use phred::MIN_PHRED;
 use refusals::BELOW_LENGTH;
@@ -24,6 +25,7 @@ use refusals::RAGGED;
 use refusals::TOO_LONG;
 use refusals::refuse_if;
 use vanilla_caller::Lengths;
+use vanilla_caller::lengths_of;
 use vanilla_caller::mark_of;
 use vanilla_caller::outputs_too_short;
 use vanilla_caller::strand_ragged;
@@ -195,23 +197,17 @@ pub fn padded(
         (arrays (now («bases_out» .exit)) (now («quals_out» .exit)) (now («depths_out» .exit)) (now («errors_out» .exit)) (now («marks_out» .exit)) (now («unconverted_out» .exit)) (now («converted_out» .exit)))
         r ⌝ }
 {
-    let strand = Lengths {
-        bases: bases.len(),
-        quals: quals.len(),
-        depths: depths.len(),
-        errors: errors.len(),
-        marks: marks.len(),
-        unconverted: unconverted.len(),
-        converted: converted.len(),
-    };
+    let strand = lengths_of(bases, quals, depths, errors, marks, unconverted, converted);
     let out = Lengths {
         bases: bases_out.len(),
         quals: quals_out.len(),
         depths: depths_out.len(),
         errors: errors_out.len(),
-        marks: marks_out.len(),
-        unconverted: unconverted_out.len(),
-        converted: converted_out.len(),
+        evidence: EvidenceLengths {
+            marks: marks_out.len(),
+            unconverted: unconverted_out.len(),
+            converted: converted_out.len(),
+        },
     };
     let number = padded_refusal(annotation, strand, new_length, out);
     if number != 0 {

@@ -15,7 +15,7 @@ returns : tie.Need-returns
 returns c =
     let asked = c .before in
     let second = asked .before in
-    let number = rw (second .before .strand-lengths .ensures, second .strand-lengths2 .ensures) at (asked .combine-refusal .ensures) in
+    let number = rw (second .before .lengths-of .ensures, second .lengths-of2 .ensures) at (asked .combine-refusal .ensures) in
     record { answered = answer-refused Refused _ number (c .if1 .taken); outputs = record-refused number (c .if1 .taken) }
 
 returns-2 : tie.Need-returns-2
@@ -29,8 +29,8 @@ returns-2 c =
     let common = ct .before in
     let passed = common .before .if1 .left in
     let asked = common .before .before in
-    let b = asked .before .strand-lengths2 .ensures in
-    let a = asked .before .before .strand-lengths .ensures in
+    let b = asked .before .lengths-of2 .ensures in
+    let a = asked .before .before .lengths-of .ensures in
     let number = rw (a, b) at (asked .combine-refusal .ensures) in
     let n = rw (a, b) at (common .common-length .ensures) in
     let r = room _ _ _ _ _ number passed n in
@@ -41,12 +41,16 @@ returns-2 c =
         bases = put-all _ _ called (positions .write-called-positions .ensures .basesNow);
         quals = put-all _ _ called (positions .write-called-positions .ensures .qualsNow);
         errors = put-all _ _ (errors-enough r) (errors .write-errors .ensures);
-        marksA = put-kept _ _ _ (first-enough r) (first .write-evidence .ensures .marksNow);
-        unconvertedA = put-kept _ _ _ (first-enough r) (first .write-evidence .ensures .unconvertedNow);
-        convertedA = put-kept _ _ _ (first-enough r) (first .write-evidence .ensures .convertedNow);
-        marksB = put-kept _ _ _ (second-enough r) (second .write-evidence2 .ensures .marksNow);
-        unconvertedB = put-kept _ _ _ (second-enough r) (second .write-evidence2 .ensures .unconvertedNow);
-        convertedB = put-kept _ _ _ (second-enough r) (second .write-evidence2 .ensures .convertedNow);
+        a = record {
+          marks = put-kept _ _ _ (first-enough r) (first .write-evidence .ensures .marksNow);
+          unconverted = put-kept _ _ _ (first-enough r) (first .write-evidence .ensures .unconvertedNow);
+          converted = put-kept _ _ _ (first-enough r) (first .write-evidence .ensures .convertedNow);
+        };
+        b = record {
+          marks = put-kept _ _ _ (second-enough r) (second .write-evidence2 .ensures .marksNow);
+          unconverted = put-kept _ _ _ (second-enough r) (second .write-evidence2 .ensures .unconvertedNow);
+          converted = put-kept _ _ _ (second-enough r) (second .write-evidence2 .ensures .convertedNow);
+        };
       }));
     }
 

@@ -16,8 +16,8 @@ kind n a b in-a in-b = cond in-a (cond in-b (Both n) (Ab a)) (cond in-b (Ba b) N
 tested :
     (c : tie.After-is-covered2)
     → (let a = c .before .before .before .before .before .args in
-    kind (c .before .before .record-length .result) (a .a) (a .b) (c .before .is-covered .result) (c .is-covered2 .result)
-    ≡ kindBy (a .a-present) (a .a) (now (a .a-depths)) (a .b-present) (a .b) (now (a .b-depths)))
+    kind (c .before .before .record-length .result) (a .a .lengths .bases) (a .b .lengths .bases) (c .before .is-covered .result) (c .is-covered2 .result)
+    ≡ kindBy (a .a) (now (a .a-depths)) (a .b) (now (a .b-depths)))
 unfolding kindBy
 tested c = cc
 

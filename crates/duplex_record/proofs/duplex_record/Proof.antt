@@ -1,38 +1,63 @@
 -- `duplex_record::duplex_record` meets its contract: refused by what is given, or by the record's kind what the call that writes it
 -- leaves. Assumes nothing.
-use mathlib.Core.Path.{refl, sym, _∙_}
+use mathlib.Core.Path.{_≡_}
 use borrow.Author.Needs.{needs}
-use Rattle.duplex_record.proofs.Record.{turned-down, none, alone-ab, alone-ba, both}
+use denote.Ref.{now}
+use Rattle.vanilla_caller.specs.Strand.{arrays}
+use Rattle.duplex_kind.specs.Kind.{Strand, strand, recordKind}
+use Rattle.duplex_kind.specs.declared.DuplexConsensus.{DuplexConsensus}
+use Rattle.duplex_record.proofs.Record.{kind-by, turned-down, none, alone-ab, alone-ba, both}
 use Rattle.duplex_record.proofs.Unannotated.{unannotated}
+use Rattle.duplex_record.proofs.Untouched.{same}
 use Rattle.duplex_record.proofs.duplex_record.Statement.{statement}
 use Rattle.duplex_record.proofs.duplex_record.Tie as tie
+
+-- The strands, as they were lent.
+abbrev start : tie.After-record-kind → tie.Start
+start c = c .before .before .before .before .before .before .before .before .before .before .before .before .before .before .before .before .before .before .before .before .before .before .before .before .before .before
+
+abbrev strandA : tie.Start → Strand
+strandA s = strand (s .args .a-present) (s .args .a-annotation) (arrays (now (s .args .a-bases)) (now (s .args .a-quals)) (now (s .args .a-depths)) (now (s .args .a-errors)) (now (s .args .a-marks)) (now (s .args .a-unconverted)) (now (s .args .a-converted)))
+
+abbrev strandB : tie.Start → Strand
+strandB s = strand (s .args .b-present) (s .args .b-annotation) (arrays (now (s .args .b-bases)) (now (s .args .b-quals)) (now (s .args .b-depths)) (now (s .args .b-errors)) (now (s .args .b-marks)) (now (s .args .b-unconverted)) (now (s .args .b-converted)))
+
+kind-is :
+    (c : tie.After-record-kind) {r : DuplexConsensus}
+    → c .record-kind .result ≡ r
+    → recordKind (strandA (start c)) (strandB (start c)) (start c .args .listed) (start c .args .reads) (start c .args .leaving) ≡ r
+kind-is c e = kind-by (strandA (start c)) (strandB (start c)) _ _ _ (c .before .before .lengths-of .ensures) (c .before .lengths-of2 .ensures) (c .record-kind .ensures) e
 
 returns : tie.Need-returns
 returns c =
     let combined = c .before .before .before .before .before .before .before .before .before .before .before .before .before .before .before .before .before .before .before in
     let told = combined .before .before .before .before .before .before .before .before .before .before .before .before .before in
-    let kind = sym (told .before .before .record-kind .ensures) ∙ told .enum-told4 .given .1 in
-    rw (c .both-of .ensures) (both _ _ _ _ _ _ _ kind (combined .combine-strands-annotated .ensures))
+    let asked = told .before .before in
+    rw (c .both-of .ensures) (both _ _ _ _ _ _ _ (kind-is asked (told .enum-told4 .given .1)) (combined .combine-strands-annotated .ensures))
 
 returns-2 : tie.Need-returns-2
-returns-2 c = turned-down _ _ _ _ _ _ (sym (c .before .before .before .record-kind .ensures) ∙ c .before .number .given .1)
+returns-2 c =
+    let asked = c .before .before .before in
+    turned-down _ _ _ _ _ _ (kind-is asked (c .before .number .given .1))
 
 returns-3 : tie.Need-returns-3
-returns-3 c = none _ _ _ _ _ _ (sym (c .before .before .record-kind .ensures) ∙ c .enum-told .given .1)
+returns-3 c =
+    let asked = c .before .before in
+    none _ _ _ _ _ _ (kind-is asked (c .enum-told .given .1))
 
 returns-4 : tie.Need-returns-4
 returns-4 c =
     let single = c .before .before .before .before .before .before .before .before .before .before .before .before .before in
     let told = single .before .before .before .before .before .before .before in
-    let kind = sym (told .before .before .record-kind .ensures) ∙ told .enum-told2 .given .1 in
-    rw (c .ab-of .ensures) (alone-ab _ _ _ _ _ _ _ kind (single .gated-single-strand .ensures) (record { marks = refl; unconverted = refl; converted = refl }))
+    let asked = told .before .before in
+    rw (c .ab-of .ensures) (alone-ab _ _ _ _ _ _ _ (kind-is asked (told .enum-told2 .given .1)) (single .gated-single-strand .ensures) same)
 
 returns-5 : tie.Need-returns-5
 returns-5 c =
     let single = c .before .before .before .before .before .before .before .before .before .before .before .before .before in
     let told = single .before .before .before .before .before .before .before in
-    let kind = sym (told .before .before .record-kind .ensures) ∙ told .enum-told3 .given .1 in
-    rw (c .ba-of .ensures) (alone-ba _ _ _ _ _ _ _ kind (single .gated-single-strand2 .ensures) (record { marks = refl; unconverted = refl; converted = refl }))
+    let asked = told .before .before in
+    rw (c .ba-of .ensures) (alone-ba _ _ _ _ _ _ _ (kind-is asked (told .enum-told3 .given .1)) (single .gated-single-strand2 .ensures) same)
 
 returns-6 : tie.Need-returns-6
 returns-6 c =
@@ -40,13 +65,15 @@ returns-6 c =
     let test = combined .before .before .before .before in
     let none = rw (test .before .before .is-annotated .ensures, test .before .is-annotated2 .ensures) at (test .if1 .left) in
     let told = test .before .before .before in
-    let kind = sym (told .before .before .record-kind .ensures) ∙ told .enum-told4 .given .1 in
-    rw (c .both-of2 .ensures) (both _ _ _ _ _ _ _ kind (unannotated _ _ _ _ _ none (combined .combine-strands .ensures) (record { marksA = refl; unconvertedA = refl; convertedA = refl; marksB = refl; unconvertedB = refl; convertedB = refl })))
+    let asked = told .before .before in
+    rw (c .both-of2 .ensures) (both _ _ _ _ _ _ _ (kind-is asked (told .enum-told4 .given .1)) (unannotated _ _ _ _ _ none (combined .combine-strands .ensures) (record { a = same; b = same })))
 
 pub duplex-record-spec : {M : Type 1} → statement M
 duplex-record-spec =
     tie.close
     (tie.spec
+    (λ c κs. tt)
+    (λ c κs. tt)
     (λ c κs. tt)
     (λ c. search needs)
     (λ c. search needs)

@@ -6,13 +6,14 @@ use Rattle.lists.proofs.Output.{answer-refused, answer-passed, put-equal, put-f
 use Rattle.duplex_outputs.proofs.Outputs.{record-refused, record-passed}
 use Rattle.duplex_single.specs.declared.SingleStrandRecord.the-variants.{Refused}
 use Rattle.duplex_single.proofs.Gated.{marks-or-none, unconverted-or-none, converted-or-none}
-use Rattle.duplex_single.proofs.Room.{room}
+use Rattle.duplex_single.proofs.Room.{by-lengths, room}
 use Rattle.duplex_single.proofs.gated_single_strand.Statement.{statement}
 use Rattle.duplex_single.proofs.gated_single_strand.Tie as tie
 
 returns : tie.Need-returns
 returns c =
-    let number = c .before .single-refusal .ensures in
+    let asked = c .before in
+    let number = by-lengths _ _ _ (asked .before .lengths-of .ensures) (asked .single-refusal .ensures) in
     record { answered = answer-refused Refused _ number (c .if1 .taken); outputs = record-refused number (c .if1 .taken) }
 
 -- The test of the number, seen from where the places of evidence are counted.
@@ -22,7 +23,9 @@ tested c = c .before .before .before .before .before .before .before .before .be
 gate-to-informative-requires : tie.Need-gate-to-informative-requires
 gate-to-informative-requires c κs =
     let counted = c .before .before .before in
-    let r = room _ _ _ (tested counted .before .single-refusal .ensures) (tested counted .if1 .left) in
+    let asked = tested counted .before in
+    let number = by-lengths _ _ _ (asked .before .lengths-of .ensures) (asked .single-refusal .ensures) in
+    let r = room _ _ _ number (tested counted .if1 .left) in
     rw (counted .evidence-places .ensures) (r .marks, (r .unconverted, r .converted))
 
 returns-2 : tie.Need-returns-2
@@ -32,7 +35,8 @@ returns-2 c =
     let errors = counted .before .before .before in
     let quals = errors .before .before .before .before in
     let bases = quals .before .before .before .before in
-    let number = tested counted .before .single-refusal .ensures in
+    let asked = tested counted .before in
+    let number = by-lengths _ _ _ (asked .before .lengths-of .ensures) (asked .single-refusal .ensures) in
     let passed = tested counted .if1 .left in
     let r = room _ _ _ number passed in
     let places = counted .evidence-places .ensures in
@@ -42,12 +46,12 @@ returns-2 c =
         bases = bases .copy-u8 .ensures ∙ put-fitting _ _ (r .bases);
         quals = quals .copy-u82 .ensures ∙ put-fitting _ _ (r .quals);
         errors = errors .copy-u16 .ensures ∙ put-fitting _ _ (r .errors);
-        marksA = evidence .gate-to-informative .ensures .0 ∙ put-equal _ (marks-or-none _ _ _ _ _ places);
-        unconvertedA = evidence .gate-to-informative .ensures .1 .0 ∙ put-equal _ (unconverted-or-none _ _ _ _ _ places);
-        convertedA = evidence .gate-to-informative .ensures .1 .1 ∙ put-equal _ (converted-or-none _ _ _ _ _ places);
-        marksB = put-none [];
-        unconvertedB = put-none [];
-        convertedB = put-none [];
+        a = record {
+          marks = evidence .gate-to-informative .ensures .0 ∙ put-equal _ (marks-or-none _ _ _ _ _ places);
+          unconverted = evidence .gate-to-informative .ensures .1 .0 ∙ put-equal _ (unconverted-or-none _ _ _ _ _ places);
+          converted = evidence .gate-to-informative .ensures .1 .1 ∙ put-equal _ (converted-or-none _ _ _ _ _ places);
+        };
+        b = record { marks = put-none []; unconverted = put-none []; converted = put-none [] };
       });
     }
 
@@ -55,6 +59,7 @@ pub gated-single-strand-spec : {M : Type 1} → statement M
 gated-single-strand-spec =
     tie.close
     (tie.spec
+    (λ c κs. tt)
     (λ c κs. tt)
     returns
     (λ c κs. tt)

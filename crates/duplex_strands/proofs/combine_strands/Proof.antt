@@ -32,12 +32,8 @@ returns-2 c =
         bases = put-all _ _ (plain-enough r) (positions .write-positions .ensures .basesNow);
         quals = put-all _ _ (plain-enough r) (positions .write-positions .ensures .qualsNow);
         errors = put-all _ _ (errors-enough r) (errors .write-errors .ensures);
-        marksA = refl;
-        unconvertedA = refl;
-        convertedA = refl;
-        marksB = refl;
-        unconvertedB = refl;
-        convertedB = refl;
+        a = record { marks = refl; unconverted = refl; converted = refl };
+        b = record { marks = refl; unconverted = refl; converted = refl };
       }));
     }
 

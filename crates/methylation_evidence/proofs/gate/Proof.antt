@@ -2,7 +2,7 @@
 use Prim.Native.Nat.{_-_}
 use native.Mathlib.Omega.{arith}
 use Rattle.lists.proofs.Output.{same, fits}
-use Rattle.methylation_evidence.specs.Arrays.{evidenceArrays}
+use Rattle.methylation.specs.Arrays.{evidenceArrays}
 use Rattle.methylation_evidence.proofs.Gating.{Gating, begin-gate, next-gate, done-gate}
 use Rattle.methylation_evidence.proofs.gate.Statement.{statement}
 use Rattle.methylation_evidence.proofs.gate.Tie as tie

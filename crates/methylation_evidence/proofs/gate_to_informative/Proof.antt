@@ -4,14 +4,14 @@ use Rattle.lists.proofs.Output.{answer-refused, answer-passed}
 use Rattle.refusals.proofs.Refusal.{passed}
 use Rattle.methylation_evidence.specs.Gate.{gateFaults}
 use Rattle.methylation_evidence.specs.declared.Positions.the-variants.{Refused}
-use Rattle.methylation_evidence.proofs.Arrays.{leaves-refused, leaves-passed, equal-lengths}
+use Rattle.methylation.proofs.Arrays.{evidence-refused, evidence-passed, equal-lengths}
 use Rattle.methylation_evidence.proofs.gate_to_informative.Statement.{statement}
 use Rattle.methylation_evidence.proofs.gate_to_informative.Tie as tie
 
 returns : tie.Need-returns
 returns c =
     let number = c .before .gate-refusal .ensures in
-    record { answered = answer-refused Refused _ number (c .if1 .taken); outputs = leaves-refused number (c .if1 .taken) }
+    record { answered = answer-refused Refused _ number (c .if1 .taken); outputs = evidence-refused number (c .if1 .taken) }
 
 gate-requires : tie.Need-gate-requires
 unfolding gateFaults
@@ -25,7 +25,7 @@ returns-2 c =
     let at-test = gated .before .before .before .before in
     let number = at-test .before .gate-refusal .ensures in
     let zero = at-test .if1 .left in
-    record { answered = answer-passed Refused _ number zero; outputs = leaves-passed number zero (gated .gate .ensures) }
+    record { answered = answer-passed Refused _ number zero; outputs = evidence-passed number zero (gated .gate .ensures) }
 
 pub gate-to-informative-spec : {M : Type 1} → statement M
 gate-to-informative-spec =

@@ -5,10 +5,10 @@ use borrow.Author.Needs.{needs}
 use denote.Ref.{now}
 use Rattle.lists.proofs.Output.{answer-refused, answer-passed}
 use Rattle.refusals.proofs.Refusal.{passed}
-use Rattle.methylation_evidence.specs.Arrays.{evidenceArrays}
+use Rattle.methylation.specs.Arrays.{evidenceArrays}
 use Rattle.methylation_evidence.specs.Truncate.{truncateFaults}
 use Rattle.methylation_evidence.specs.declared.Positions.the-variants.{Refused, Written}
-use Rattle.methylation_evidence.proofs.Arrays.{leaves-refused, leaves-passed, equal-lengths, enough-room}
+use Rattle.methylation.proofs.Arrays.{evidence-refused, evidence-passed, equal-lengths, enough-room}
 use Rattle.methylation_evidence.proofs.Truncating.{same-positions}
 use Rattle.methylation_evidence.proofs.truncate.Statement.{statement}
 use Rattle.methylation_evidence.proofs.truncate.Tie as tie
@@ -16,7 +16,7 @@ use Rattle.methylation_evidence.proofs.truncate.Tie as tie
 returns : tie.Need-returns
 returns c =
     let number = c .before .truncate-refusal .ensures in
-    record { answered = answer-refused Refused _ number (c .if1 .taken); outputs = leaves-refused number (c .if1 .taken) }
+    record { answered = answer-refused Refused _ number (c .if1 .taken); outputs = evidence-refused number (c .if1 .taken) }
 
 write-truncated-requires : tie.Need-write-truncated-requires
 unfolding truncateFaults
@@ -41,7 +41,7 @@ returns-2 c =
     let whole = same-positions (a .len) (evidenceArrays (now (a .marks)) (now (a .unconverted)) (now (a .converted))) same (counted .smaller .ensures) in
     record {
       answered = ap Written (counted .smaller .ensures) ∙ answer-passed Refused _ number zero;
-      outputs = leaves-passed number zero (rw whole at (written .write-truncated .ensures));
+      outputs = evidence-passed number zero (rw whole at (written .write-truncated .ensures));
     }
 
 pub truncate-spec : {M : Type 1} → statement M

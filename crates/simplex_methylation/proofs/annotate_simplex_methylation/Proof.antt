@@ -64,7 +64,8 @@ use lib.Dec.{eqb}
 use Rattle.lists.specs.Output.{answer}
 use Rattle.methylation.specs.Methylation.{patternBases}
 use Rattle.source_reads.specs.Reads.{none, readLeaves, anyLeaves}
-use Rattle.simplex_methylation.specs.Simplex.{Setting, setting, Outputs, outputs, Below as Small, BegunAs, AddedAs, AnnotatedAs}
+use Rattle.methylation.specs.Arrays.{EvidenceArrays, evidenceArrays}
+use Rattle.simplex_methylation.specs.Simplex.{Setting, setting, Below as Small, BegunAs, AddedAs, AnnotatedAs}
 use Rattle.simplex_methylation.specs.declared.SimplexMethylation.the-variants.{Refused, Written}
 use Rattle.simplex_methylation.proofs.Turns.{Known, Turn, first-turn, next-turn, turn-asks, at-most, told}
 use Rattle.source_reads.specs.declared.SourceRead.{SourceRead}
@@ -221,12 +222,12 @@ module _ {M : Type 1} (𝓤 : URA M) (H : Heap 𝓤) (A : Atoms 𝓤) (W : Given
   abbrev common : Setting
   common = setting x4 (s2 .now) (s3 .now) (s5 .now) x6
 
-  abbrev before : Outputs
-  before = outputs (s7 .now) (s8 .now) (s9 .now)
+  abbrev before : EvidenceArrays
+  before = evidenceArrays (s7 .now) (s8 .now) (s9 .now)
 
   -- what the `ensures` says of the result and of the last lists
   abbrev Says : SimplexMethylation → List ℕ → List ℕ → List ℕ → Type 0
-  Says r zs7 zs8 zs9 = AnnotatedAs common (s1 .now) x0 before (outputs zs7 zs8 zs9) r
+  Says r zs7 zs8 zs9 = AnnotatedAs common (s1 .now) x0 before (evidenceArrays zs7 zs8 zs9) r
 
   exits : (r : SimplexMethylation) (w : Val) (zs7 : List ℕ) (zs8 : List ℕ) (zs9 : List ℕ) → Says r zs7 zs8 zs9 → length zs7 ≡ length (s7 .now) → length zs8 ≡ length (s8 .now) → length zs9 ≡ length (s9 .now) → Is SimplexMethylation-row.the-row r (w ∷ []) → ent 𝓤 (⋆ 𝓤 H A (Extras zs7 zs8 zs9)) (Post (w))
   exits r w zs7 zs8 zs9 e len7 len8 len9 g =
@@ -243,7 +244,7 @@ module _ {M : Type 1} (𝓤 : URA M) (H : Heap 𝓤) (A : Atoms 𝓤) (W : Given
     begin-called : {K : Type 0} {Γ : List (Item 𝓤)} {E : Env 𝓤 H} {qp : Kit.Post 𝓤 H} {xs : List Operand} {d : Place} {rest : Body} → K → (𝓣 : Tables 𝓤 H) → Triple 𝓤 (𝓣 .C #simplex-methylation·begin-annotation) (BeginannotationC 𝓤 H A mem run)
         → ((ν7 ν8 ν9 : ℕ) (δ7 δ8 δ9 : GName) → Opds K W (raw (BeginannotationC 𝓤 H A mem run .pre (begin-to ν7 ν8 ν9 δ7 δ8 δ9)) ∷ ‵ (Kept u32 κ6 q6 (s9 .name) (s9 .ptr .0) (s9 .ptr .1) (s9 .now) ν9 δ9) ∷ ‵ (Kept u32 κ5 q5 (s8 .name) (s8 .ptr .0) (s8 .ptr .1) (s8 .now) ν8 δ8) ∷ ‵ (Kept u8 κ4 q4 (s7 .name) (s7 .ptr .0) (s7 .ptr .1) (s7 .now) ν7 δ7) ∷ Γ) E xs
         (vint w64 x0 ∷ vint w64 m ∷ vbool leaving ∷ v3 ∷ EL.val ConversionPattern-row.the-type ConversionPattern-laws.the-laws x4 ∷ v7 ∷ v8 ∷ v9 ∷ []))
-        → ((r : ℕ) (ms us cs : List ℕ) (w : Val) → BegunAs (patternBases x4 .reference) (s3 .now) x0 m leaving before (outputs ms us cs) r → length ms ≡ length (s7 .now) → length us ≡ length (s8 .now) → length cs ≡ length (s9 .now) → Is u8 r (w ∷ [])
+        → ((r : ℕ) (ms us cs : List ℕ) (w : Val) → BegunAs (patternBases x4 .reference) (s3 .now) x0 m leaving before (evidenceArrays ms us cs) r → length ms ≡ length (s7 .now) → length us ≡ length (s8 .now) → length cs ≡ length (s9 .now) → Is u8 r (w ∷ [])
         → Seq K W (‵ (flft κ2 q2) ∷ ‵ (fobs (s7 .name) (codedHoleys u8 .code (heres u8 ms))) ∷ ‵ (fbor κ4 (Held u8 (length ms) (s7 .ptr .0) (s7 .ptr .1) (s7 .name))) ∷ ‵ (flft κ4 q4) ∷ ‵ (fobs (s8 .name) (codedHoleys u32 .code (heres u32 us))) ∷ ‵ (fbor κ5 (Held u32 (length us) (s8 .ptr .0) (s8 .ptr .1) (s8 .name))) ∷ ‵ (flft κ5 q5) ∷ ‵ (fobs (s9 .name) (codedHoleys u32 .code (heres u32 cs))) ∷ ‵ (fbor κ6 (Held u32 (length cs) (s9 .ptr .0) (s9 .ptr .1) (s9 .name))) ∷ ‵ (flft κ6 q6) ∷ Γ) (lands (𝓣 .C) (𝓣 .Λ) E d w rest qp))
         → Seq K W (‵ (flft κ2 q2) ∷ ‵ Own3 ∷ ‵ (fobs (s7 .name) (codedHoleys u8 .code (heres u8 (s7 .now)))) ∷ ‵ (fbor κ4 (Held u8 (length (s7 .now)) (s7 .ptr .0) (s7 .ptr .1) (s7 .name))) ∷ ‵ (flft κ4 q4) ∷ ‵ (fobs (s8 .name) (codedHoleys u32 .code (heres u32 (s8 .now)))) ∷ ‵ (fbor κ5 (Held u32 (length (s8 .now)) (s8 .ptr .0) (s8 .ptr .1) (s8 .name))) ∷ ‵ (flft κ5 q5) ∷ ‵ (fobs (s9 .name) (codedHoleys u32 .code (heres u32 (s9 .now)))) ∷ ‵ (fbor κ6 (Held u32 (length (s9 .now)) (s9 .ptr .0) (s9 .ptr .1) (s9 .name))) ∷ ‵ (flft κ6 q6) ∷ Γ) (runs (𝓣 .C) (𝓣 .Λ) E (seq (call #simplex-methylation·begin-annotation xs d) rest) qp)
     begin-called t 𝓣 known os k =
@@ -253,8 +254,8 @@ module _ {M : Type 1} (𝓤 : URA M) (H : Heap 𝓤) (A : Atoms 𝓤) (W : Given
         group t 5 $ use1 W (raw (BeginannotationC 𝓤 H A mem run .pre (begin-to ν7 ν8 ν9 δ7 δ8 δ9))) (begin-annotation-asked 𝓤 H A W mem run κ2 (ν7 ∷ []) (ν8 ∷ []) (ν9 ∷ []) q2 fullShare fullShare fullShare x0 m leaving s3 x4 (passed u8 κ4 q4 (s7 .name) (s7 .ptr .0) (s7 .ptr .1) (s7 .now) δ7) (passed u32 κ5 q5 (s8 .name) (s8 .ptr .0) (s8 .ptr .1) (s8 .now) δ8) (passed u32 κ6 q6 (s9 .name) (s9 .ptr .0) (s9 .ptr .1) (s9 .now) δ9) g0 gm g4) $
         calls-at t (fmOf 𝓤 H (W .laws) 𝓣) (BeginannotationC 𝓤 H A mem run) known (begin-to ν7 ν8 ν9 δ7 δ8 δ9) (os ν7 ν8 ν9 δ7 δ8 δ9) (λ w.
         use1 W (later (someᵢ (λ (r : ℕ). ((‵ (flft κ2 q2) ⊛ (‵ (flft (ν7 ∷ []) fullShare) ⊛ (‵ (flft (ν8 ∷ []) fullShare) ⊛ (‵ (flft (ν9 ∷ []) fullShare) ⊛ ‵ ftrue)))) ⊛ ‵ (u8 .own r (w ∷ []))) ⊛ raw (ensured 𝓤 H A begin-annotation.ended (begin-annotation.clauses 𝓤 H A mem run) (κ2, (ν7 ∷ [], (ν8 ∷ [], (ν9 ∷ [], tt)))) (x0, (m, (leaving, (s3, (x4, ((passed u8 κ4 q4 (s7 .name) (s7 .ptr .0) (s7 .ptr .1) (s7 .now) δ7), ((passed u32 κ5 q5 (s8 .name) (s8 .ptr .0) (s8 .ptr .1) (s8 .now) δ8), ((passed u32 κ6 q6 (s9 .name) (s9 .ptr .0) (s9 .ptr .1) (s9 .now) δ9), tt)))))))) tt r)))) (id⊢ 𝓤 _) $ await t tt $ pick t (λ r.
-        split t $ move t (1 ∷ []) $ use1 W (someᵢ (λ (zs : Unit {0} × (Unit {0} × (Unit {0} × (Unit {0} × (Unit {0} × (List ℕ × (List ℕ × (List ℕ × Unit {0})))))))). ‵ (lasts begin-annotation.ended (κ2, (ν7 ∷ [], (ν8 ∷ [], (ν9 ∷ [], tt)))) (x0, (m, (leaving, (s3, (x4, ((passed u8 κ4 q4 (s7 .name) (s7 .ptr .0) (s7 .ptr .1) (s7 .now) δ7), ((passed u32 κ5 q5 (s8 .name) (s8 .ptr .0) (s8 .ptr .1) (s8 .now) δ8), ((passed u32 κ6 q6 (s9 .name) (s9 .ptr .0) (s9 .ptr .1) (s9 .now) δ9), tt)))))))) zs) ⊛ raw (fact 𝓤 (BegunAs (patternBases x4 .reference) (s3 .now) x0 m leaving before (outputs (zs .1 .1 .1 .1 .1 .0) (zs .1 .1 .1 .1 .1 .1 .0) (zs .1 .1 .1 .1 .1 .1 .1 .0)) r)))) (id⊢ 𝓤 _) $ pick t (λ zs.
-        split t $ move t (1 ∷ []) $ heard t (BegunAs (patternBases x4 .reference) (s3 .now) x0 m leaving before (outputs (zs .1 .1 .1 .1 .1 .0) (zs .1 .1 .1 .1 .1 .1 .0) (zs .1 .1 .1 .1 .1 .1 .1 .0)) r) (λ e.
+        split t $ move t (1 ∷ []) $ use1 W (someᵢ (λ (zs : Unit {0} × (Unit {0} × (Unit {0} × (Unit {0} × (Unit {0} × (List ℕ × (List ℕ × (List ℕ × Unit {0})))))))). ‵ (lasts begin-annotation.ended (κ2, (ν7 ∷ [], (ν8 ∷ [], (ν9 ∷ [], tt)))) (x0, (m, (leaving, (s3, (x4, ((passed u8 κ4 q4 (s7 .name) (s7 .ptr .0) (s7 .ptr .1) (s7 .now) δ7), ((passed u32 κ5 q5 (s8 .name) (s8 .ptr .0) (s8 .ptr .1) (s8 .now) δ8), ((passed u32 κ6 q6 (s9 .name) (s9 .ptr .0) (s9 .ptr .1) (s9 .now) δ9), tt)))))))) zs) ⊛ raw (fact 𝓤 (BegunAs (patternBases x4 .reference) (s3 .now) x0 m leaving before (evidenceArrays (zs .1 .1 .1 .1 .1 .0) (zs .1 .1 .1 .1 .1 .1 .0) (zs .1 .1 .1 .1 .1 .1 .1 .0)) r)))) (id⊢ 𝓤 _) $ pick t (λ zs.
+        split t $ move t (1 ∷ []) $ heard t (BegunAs (patternBases x4 .reference) (s3 .now) x0 m leaving before (evidenceArrays (zs .1 .1 .1 .1 .1 .0) (zs .1 .1 .1 .1 .1 .1 .0) (zs .1 .1 .1 .1 .1 .1 .1 .0)) r) (λ e.
         -- the last lists, of each slice that is `&mut`, and that each is as long
         fsplit t $ drop t $ fsplit t $ drop t $ fsplit t $ drop t $ fsplit t $ drop t $ fsplit t $ drop t $
         fsplit t $ fsplit t $ move t (1 ∷ []) $ feqL t (λ same7. move t (1 ∷ []) $ fsplit t $ fsplit t $ move t (1 ∷ []) $ feqL t (λ same8. move t (1 ∷ []) $ fsplit t $ fsplit t $ move t (1 ∷ []) $ feqL t (λ same9.
@@ -458,7 +459,7 @@ module _ {M : Type 1} (𝓤 : URA M) (H : Heap 𝓤) (A : Atoms 𝓤) (W : Given
       (turns leaving number many ms (facts-of e begun e″) (is′ .1) (is″ .1) same7 𝓣 known-add-read known-simplex-answer l₀ l₁ l₂ l₃ l₄ l₅ l₆ l₇ l₈ l₉ l₁₀ l₁₁ l₁₂ l₁₃ l₁₄ l₁₅ l₁₆ l₁₇ l₁₈ l₁₉ l₂₀ l₂₁ l₂₂ l₂₃ l₂₄ l₂₅ l₂₆ l₂₇ l₂₈ l₂₉ l₃₀ l₃₁)
       (0, (us, (cs, first-turn common ys x0 before begun same8 same9))))))))))))))))))))))))))))))))))))))
     where
-      facts-of : {leaving : Bool} {number many : ℕ} {ms us cs : List ℕ} → leaving ≡ anyLeaves size ys → BegunAs (patternBases x4 .reference) (s3 .now) x0 n leaving before (outputs ms us cs) number → many ≡ cond (eqb number 0) n 0 → Known common ys x0 before leaving number many ms
+      facts-of : {leaving : Bool} {number many : ℕ} {ms us cs : List ℕ} → leaving ≡ anyLeaves size ys → BegunAs (patternBases x4 .reference) (s3 .now) x0 n leaving before (evidenceArrays ms us cs) number → many ≡ cond (eqb number 0) n 0 → Known common ys x0 before leaving number many ms
       facts-of e begun m = record { leaves = e; refused = begun .answered; marks = begun .left .marks; many-are = m }
 
 module _ {M : Type 1} (𝓤 : URA M) (H : Heap 𝓤) (A : Atoms 𝓤) (W : Given 𝓤 H A) (mem : Memory → SProp 𝓤) (run : Routine → Fun 𝓤) where

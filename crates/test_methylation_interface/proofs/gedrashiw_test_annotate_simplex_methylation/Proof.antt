@@ -43,7 +43,8 @@ use denote.Exit.{yes}
 use types.Tokens.{lft-new, lft-end}
 use Rattle.source_reads.proofs.Relend.{at-name, Meanwhile, lends-on, has-back}
 use Rattle.source_reads.proofs.Walk.{leaves, calls-told, calls-left}
-use Rattle.simplex_methylation.specs.Simplex.{setting, outputs, AnnotatedAs}
+use Rattle.methylation.specs.Arrays.{evidenceArrays}
+use Rattle.simplex_methylation.specs.Simplex.{setting, AnnotatedAs}
 use Rattle.test_methylation_interface.specs.Replies.{patternOf, simplexReply, RepliedAs}
 use Rattle.test_methylation_interface.proofs.Replied.{simplex-replied}
 use Rattle.source_reads.specs.declared.SourceRead.{SourceRead}
@@ -191,7 +192,7 @@ module _ {M : Type 1} (𝓤 : URA M) (H : Heap 𝓤) (A : Atoms 𝓤) (W : Given
 
   -- what the `ensures` says of the result and of the last lists
   abbrev Says : Reply → List ℕ → List ℕ → List ℕ → Type 0
-  Says r z7 z8 z9 = RepliedAs simplexReply (AnnotatedAs (setting (patternOf x4) (s2 .now) (s3 .now) (s5 .now) x6) (s1 .now) x0 (outputs (s7 .now) (s8 .now) (s9 .now)) (outputs z7 z8 z9)) r
+  Says r z7 z8 z9 = RepliedAs simplexReply (AnnotatedAs (setting (patternOf x4) (s2 .now) (s3 .now) (s5 .now) x6) (s1 .now) x0 (evidenceArrays (s7 .now) (s8 .now) (s9 .now)) (evidenceArrays z7 z8 z9)) r
 
   exits : (r : Reply) (w : Val) (z7 z8 z9 : List ℕ) → Says r z7 z8 z9 → length z7 ≡ length (s7 .now) → length z8 ≡ length (s8 .now) → length z9 ≡ length (s9 .now) → Is Reply-row.the-row r (w ∷ []) → ent 𝓤 (⋆ 𝓤 H A (Back z7 z8 z9 ∷ [])) (Post w)
   exits r w z7 z8 z9 e len7 len8 len9 g =
@@ -293,7 +294,7 @@ module _ {M : Type 1} (𝓤 : URA M) (H : Heap 𝓤) (A : Atoms 𝓤) (W : Given
       lft-new ! tt (λ ν4. lft-new ! tt (λ ν5. join ! $ lft-new ! tt (λ ν6. join ! $
       move ! (0 ∷ 39 ∷ []) $
       use2 W (later (someᵢ (λ (δs : Names a4 w4 h4). raw (AnnotateC 𝓤 H A mem run .pre (to a4 w4 h4 ν4 ν5 ν6 δs)) ⊛ Kept a4 w4 h4 ν4 ν5 ν6 δs))) (lends a4 w4 h4 ν4 ν5 ν6) $ await ! tt $ pick ! (λ δs. split ! $
-      calls-left ! (fmOf 𝓤 H (W .laws) 𝓣) annotate.ended (annotate.clauses 𝓤 H A mem run) known-annotate (to a4 w4 h4 ν4 ν5 ν6 δs) (λ r ws. AnnotatedAs (setting a4 (s2 .now) (s3 .now) (s5 .now) x6) (s1 .now) x0 (outputs (s7 .now) (s8 .now) (s9 .now)) (outputs (ws .1 .1 .1 .1 .1 .1 .1 .0) (ws .1 .1 .1 .1 .1 .1 .1 .1 .0) (ws .1 .1 .1 .1 .1 .1 .1 .1 .1 .0)) r) (λ r ws. id⊢ 𝓤 _)
+      calls-left ! (fmOf 𝓤 H (W .laws) 𝓣) annotate.ended (annotate.clauses 𝓤 H A mem run) known-annotate (to a4 w4 h4 ν4 ν5 ν6 δs) (λ r ws. AnnotatedAs (setting a4 (s2 .now) (s3 .now) (s5 .now) x6) (s1 .now) x0 (evidenceArrays (s7 .now) (s8 .now) (s9 .now)) (evidenceArrays (ws .1 .1 .1 .1 .1 .1 .1 .0) (ws .1 .1 .1 .1 .1 .1 .1 .1 .0) (ws .1 .1 .1 .1 .1 .1 .1 .1 .1 .0)) r) (λ r ws. id⊢ 𝓤 _)
       (and-then ! (load ! (from ! (stop !)) (look ! 36 refl)) (and-then ! (load ! (from ! (stop !)) (look ! 34 refl)) (and-then ! (load ! (from ! (stop !)) (look ! 32 refl)) (and-then ! (load ! (from ! (stop !)) (look ! 30 refl)) (and-then ! (load ! (from ! (stop !)) (look ! 16 refl)) (and-then ! (load ! (from ! (stop !)) (look ! 26 refl)) (and-then ! (load ! (from ! (stop !)) (look ! 24 refl)) (and-then ! (load ! (from ! (stop !)) (look ! 10 refl)) (and-then ! (load ! (from ! (stop !)) (look ! 6 refl)) (and-then ! (load ! (from ! (stop !)) (look ! 2 refl)) (no-more !))))))))))) (λ r ws w e is.
       -- [the tokens; the last lists; what was kept; the locals (3 on)]
       land ! (from ! (stop !)) (init ! 15 refl (EL.lawful SimplexMethylation-row.the-type SimplexMethylation-laws.the-laws 𝓤 H A W tt .typed r _ is .0)) $

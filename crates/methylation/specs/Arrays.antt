@@ -1,4 +1,4 @@
--- The evidence of a strand's annotation, document 01: per position an informative mark (0 no, any other byte yes) and two counts.
+-- An annotation's evidence as arrays, document 01: per position an informative mark (0 no, any other byte yes) and two counts.
 use Prim.Native.Nat.{ℕ}
 use mathlib.Core.Path.{_≡_}
 use mathlib.Core.Bool.{Bool, not}
@@ -7,7 +7,7 @@ use lib.Dec.{eqb}
 use lib.ListN.{length}
 use Rattle.lists.specs.Output.{after}
 use Rattle.refusals.specs.Refusal.{tooLong, ragged, tooShort}
-use Rattle.methylation_evidence.specs.declared.EvidenceLengths.{EvidenceLengths}
+use Rattle.methylation.specs.declared.EvidenceLengths.{EvidenceLengths}
 
 -- The arrays of an annotation, or those lent for one.
 pub record EvidenceArrays : Type 0 where
@@ -19,8 +19,8 @@ abbrev pub evidenceArrays : List ℕ → List ℕ → List ℕ → EvidenceArray
 evidenceArrays m u c = record { marks = m; unconverted = u; converted = c }
 
 -- How long each is.
-abbrev pub lengths : EvidenceArrays → EvidenceLengths
-lengths e = record { marks = length (e .marks); unconverted = length (e .unconverted); converted = length (e .converted) }
+abbrev pub evidenceLengths : EvidenceArrays → EvidenceLengths
+evidenceLengths e = record { marks = length (e .marks); unconverted = length (e .unconverted); converted = length (e .converted) }
 
 -- A mark says that its position is informative.
 abbrev pub informative : ℕ → Bool
@@ -34,16 +34,19 @@ three e = e .marks ∷ e .unconverted ∷ e .converted ∷ []
 unfoldable pub evidenceTooLong : EvidenceLengths → Bool
 evidenceTooLong e = tooLong (three e)
 
--- Row 8's.
+-- Row 8's, for the arrays among themselves, and beside n bases.
 unfoldable pub evidenceRagged : EvidenceLengths → Bool
 evidenceRagged e = ragged (three e)
+
+unfoldable pub evidenceUneven : ℕ → EvidenceLengths → Bool
+evidenceUneven n e = ragged (n ∷ three e)
 
 -- Row 12's, for outputs to which n positions go.
 unfoldable pub evidenceTooShort : ℕ → EvidenceLengths → Bool
 evidenceTooShort n out = tooShort n (three out)
 
 -- What a call leaves in the arrays lent for evidence, where it was refused with a number (0: not refused) or else writes these.
-pub record EvidenceLeaves (number : ℕ) (written before now : EvidenceArrays) : Type 0 where
+pub record LeavesEvidence (number : ℕ) (written before now : EvidenceArrays) : Type 0 where
   pub marks : now .marks ≡ after number (written .marks) (before .marks)
   pub unconverted : now .unconverted ≡ after number (written .unconverted) (before .unconverted)
   pub converted : now .converted ≡ after number (written .converted) (before .converted)
