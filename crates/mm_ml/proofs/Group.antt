@@ -21,8 +21,7 @@ use Rattle.methylation.specs.declared.ConversionPattern.the-variants.{CToT, GTo
 use Rattle.methylation.specs.declared.MethylationMode.{MethylationMode}
 use Rattle.methylation_calls.specs.Calls.{isTracked}
 use Rattle.mm_ml.specs.Text.{prefixOf, groupText}
-use Rattle.mm_ml.specs.Tags.{Annotated, calledAt, skips, allCalls, allListed, allText, allBytes, calls, mlByte, ifCalled, mmText, mlArray, tagsIfCalled, tagIfCalled}
-use Rattle.mm_ml.specs.declared.Mm.the-variants.{Tag}
+use Rattle.mm_ml.specs.Tags.{Annotated, calledAt, skips, allCalls, allListed, allText, allBytes, calls, mlByte, ifCalled, mmText, mlArray, tagsIfCalled}
 use Rattle.mm_ml.specs.declared.MmMl.the-variants.{Tags}
 use Rattle.mm_ml.proofs.Walk.{listed-within, calls-within}
 
@@ -113,10 +112,6 @@ module _ (mode : MethylationMode) (s : Annotated) where
 pub tags-some : (ps : List ℕ) (mm ml : ℕ) → (length ps ≡ 0 → ⊥) → Tags mm ml ≡ tagsIfCalled ps mm ml
 tags-some [] mm ml h = absurd (h refl)
 tags-some (p ∷ ps) mm ml h = refl
-
-pub tag-some : (ps : List ℕ) (mm : ℕ) → (length ps ≡ 0 → ⊥) → Tag mm ≡ tagIfCalled ps mm
-tag-some [] mm h = absurd (h refl)
-tag-some (p ∷ ps) mm h = refl
 
 pub none-of : (ps : List ℕ) → length ps ≡ 0 → ps ≡ []
 none-of [] e = refl

@@ -1,5 +1,6 @@
 -- The refusal of a call that tests the strand first and the room of its outputs after.
 --     evident               a strand that is not refused
+--     both-tests            the number, by the two tests
 --     refused-by-strand, refused-by-room     the number, by the test that gave it
 --     enough-room           two outputs that are not refused
 -- Assumes nothing.
@@ -23,7 +24,7 @@ evident s e z =
     record { few = short .0; marks = same .0; unconverted = same .1 .0; converted = same .1 .1 .0 }
 
 module _ (s : Annotated) (a mm b ml : ℕ) where
-  both-tests : refusal (faultsOf s ++ roomFaults a mm b ml) ≡ cond (eqb (refusal (faultsOf s)) 0) (refusal (roomFaults a mm b ml)) (refusal (faultsOf s))
+  pub both-tests : refusal (faultsOf s ++ roomFaults a mm b ml) ≡ cond (eqb (refusal (faultsOf s)) 0) (refusal (roomFaults a mm b ml)) (refusal (faultsOf s))
   both-tests = and-then (faultsOf s) (roomFaults a mm b ml) refl tt
 
   pub refused-by-strand : {n : ℕ} → n ≡ refusal (faultsOf s) → (n ≡ 0 → ⊥) → n ≡ refusal (faultsOf s ++ roomFaults a mm b ml)

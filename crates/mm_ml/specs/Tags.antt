@@ -123,6 +123,12 @@ pub record TaggedAs (mode : MethylationMode) (s : Annotated) (mm ml mmNow mlNow 
 unfoldable pub tagRefused : MethylationMode → Annotated → List ℕ → ℕ
 tagRefused mode s mm = refusal (faultsOf s ++ roomFaults (length (mmText mode s)) (length mm) 0 0)
 
+-- An answer of the one as that of the other.
+abbrev pub mmOf : MmMl → Mm
+mmOf (Refused number) = Refused-mm number
+mmOf NoTag = NoTag-mm
+mmOf (Tags mm ml) = Tag mm
+
 abbrev pub tagIfCalled : List ℕ → ℕ → Mm
 tagIfCalled [] mm = NoTag-mm
 tagIfCalled (p ∷ ps) mm = Tag mm

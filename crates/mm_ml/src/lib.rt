@@ -8,7 +8,7 @@ ghost use Rattle.lists.specs.Output.{put};
 ghost use Rattle.refusals.specs.Refusal.{refusal};
 ghost use Rattle.decimal.specs.Decimal.{decimal};
 ghost use Rattle.mm_ml.specs.Text.{prefixOf};
-ghost use Rattle.mm_ml.specs.Tags.{annotated, calledAt, calls, allCalls, allListed, allText, allBytes, mmText, strandFaults, roomFaults, Evident, Counted, TaggedAs, MmTaggedAs};
+ghost use Rattle.mm_ml.specs.Tags.{annotated, calledAt, calls, allCalls, allListed, allText, allBytes, mmText, strandFaults, roomFaults, Evident, Counted, TaggedAs, mmOf, MmTaggedAs};
 use decimal::write_decimal;
 use lists::copy_u8;
 use methylation::ConversionPattern;
@@ -209,52 +209,6 @@ fn write_skip(mm: &mut [u8], at: usize, skip: usize) -> usize
     next + write_decimal(skip as u64, &mut mm[next..])
 }
 
-// The listed skip counts behind the prefix; answers the place after them.
-fn write_skips(
-    pattern: ConversionPattern,
-    bases: &[u8],
-    marks: &[u8],
-    unconverted: &[u32],
-    converted: &[u32],
-    mm: &mut [u8],
-) -> usize
-    requires { ⌜ Evident (annotated (now bases) pattern (now marks) (now unconverted) (now converted)) ⌝ }
-    requires { ⌜ 4 + length (allListed (annotated (now bases) pattern (now marks) (now unconverted) (now converted))) ≤ length (now mm) ⌝ }
-    ensures { λ r. ⌜ r ≡ 4 + length (allListed (annotated (now (bases .entry)) pattern (now (marks .entry)) (now (unconverted .entry)) (now (converted .entry)))) ⌝ }
-    ensures { λ _. ⌜ now (mm .exit) ≡ put (take 4 (now (mm .entry)) ++ allListed (annotated (now (bases .entry)) pattern (now (marks .entry)) (now (unconverted .entry)) (now (converted .entry)))) (now (mm .entry)) ⌝ }
-{
-    let mut at = 4;
-    let mut skip = 0;
-    let mut i = 0;
-    while i < bases.len() {
-        let called = called_at(pattern, bases, marks, unconverted, converted, i);
-        if called {
-            at = write_skip(mm, at, skip);
-        }
-        skip = skip_after(skip, called, is_tracked(pattern, bases[i]));
-        i += 1;
-    }
-    at
-}
-
-fn write_mm(
-    pattern: ConversionPattern,
-    bases: &[u8],
-    marks: &[u8],
-    unconverted: &[u32],
-    converted: &[u32],
-    mm: &mut [u8],
-)
-    requires { ⌜ Evident (annotated (now bases) pattern (now marks) (now unconverted) (now converted)) ⌝ }
-    requires { ⌜ length (allText (annotated (now bases) pattern (now marks) (now unconverted) (now converted))) ≤ length (now mm) ⌝ }
-    ensures { λ _. ⌜ now (mm .exit) ≡ put (allText (annotated (now (bases .entry)) pattern (now (marks .entry)) (now (unconverted .entry)) (now (converted .entry)))) (now (mm .entry)) ⌝ }
-{
-    let prefix = mm_prefix(pattern);
-    copy_u8(&prefix, mm);
-    let at = write_skips(pattern, bases, marks, unconverted, converted, mm);
-    mm[at] = b';';
-}
-
 // The listed skip counts behind the prefix, and the ML bytes; answers the place after the counts.
 fn write_calls(
     mode: MethylationMode,
@@ -373,7 +327,18 @@ pub fn build_mm_ml_tags(
     }
 }
 
-// The MM text alone. Refuses by 7, 8, 12.
+// The answer without the ML bytes.
+fn mm_of(tags: MmMl) -> Mm
+    ensures { λ r. ⌜ r ≡ mmOf tags ⌝ }
+{
+    match tags {
+        MmMl::Refused(number) => Mm::Refused(number),
+        MmMl::NoTag => Mm::NoTag,
+        MmMl::Tags { mm, ml: _ } => Mm::Tag(mm),
+    }
+}
+
+// The MM text alone: the ML bytes go to a buffer that has room for any. Refuses by 7, 8, 12.
 pub fn build_mm_tag_no_ml(
     consensus_bases: &[u8],
     pattern: ConversionPattern,
@@ -385,37 +350,15 @@ pub fn build_mm_tag_no_ml(
 ) -> Mm
     ensures { λ r. ⌜ MmTaggedAs mode (annotated (now («consensus_bases» .entry)) pattern (now (marks .entry)) (now (unconverted .entry)) (now (converted .entry))) (now (mm .entry)) (now (mm .exit)) r ⌝ }
 {
-    let number = strand_refusal(
-        consensus_bases.len(),
-        marks.len(),
-        unconverted.len(),
-        converted.len(),
-    );
-    if number != 0 {
-        return Mm::Refused(number);
-    }
-    let needed = tag_lengths(
-        mode,
-        pattern,
+    let mut ml = [0; 1024];
+    mm_of(build_mm_ml_tags(
         consensus_bases,
+        pattern,
         marks,
         unconverted,
         converted,
-    );
-    let number = room_refusal(
-        Lengths {
-            mm: needed.mm,
-            ml: 0,
-        },
-        mm.len(),
-        0,
-    );
-    if number != 0 {
-        return Mm::Refused(number);
-    }
-    if needed.ml == 0 {
-        return Mm::NoTag;
-    }
-    write_mm(pattern, consensus_bases, marks, unconverted, converted, mm);
-    Mm::Tag(needed.mm)
+        mode,
+        mm,
+        &mut ml,
+    ))
 }
