@@ -2,11 +2,11 @@
 // by how many positions it has and by its strands' depths; an absent strand has none. Uses lists, refusals and numbers.
 ghost use mathlib.Core.Path.{_≡_};
 ghost use Prim.Native.Nat.{_≤_};
-ghost use lib.ListN.{length, getD};
+ghost use lib.ListN.{length};
 ghost use Rattle.lists.specs.Output.{answer, put, after};
 ghost use Rattle.numbers.specs.Numbers.{largest, smallest};
 ghost use Rattle.refusals.specs.Refusal.{refusal};
-ghost use Rattle.duplex_depths.specs.Depths.{combinedDepths, recordTooLong, combinedFaults, combinedRefused, depthRange};
+ghost use Rattle.duplex_depths.specs.Depths.{combinedDepth, combinedDepths, recordTooLong, combinedFaults, combinedRefused, depthRange};
 use lists::at_u16;
 use numbers::max_u16;
 use numbers::min_u16;
@@ -41,13 +41,9 @@ fn combined_refusal(positions: usize, ab: usize, ba: usize, out: usize) -> u8
     refuse_if(number, out < positions, OUTPUT_TOO_SHORT)
 }
 
-// The combined depth at a position, 0 past the record's end.
-fn combined_depth(positions: usize, ab: &[u16], ba: &[u16], i: usize) -> u16
-    ensures { λ r. ⌜ r ≡ getD (combinedDepths positions (now (ab .entry)) (now (ba .entry))) i 0 ⌝ }
+fn combined_depth(ab: &[u16], ba: &[u16], i: usize) -> u16
+    ensures { λ r. ⌜ r ≡ combinedDepth (now (ab .entry)) (now (ba .entry)) i ⌝ }
 {
-    if positions <= i {
-        return 0;
-    }
     saturating_add_u16(at_u16(ab, i, 0), at_u16(ba, i, 0))
 }
 
@@ -57,7 +53,7 @@ fn write_combined(positions: usize, ab: &[u16], ba: &[u16], out: &mut [u16])
 {
     let mut i = 0;
     while i < positions {
-        out[i] = combined_depth(positions, ab, ba, i);
+        out[i] = combined_depth(ab, ba, i);
         i += 1;
     }
 }
@@ -78,10 +74,13 @@ pub fn combined_depths(positions: usize, ab: &[u16], ba: &[u16], out: &mut [u16]
 fn smallest_combined(positions: usize, ab: &[u16], ba: &[u16]) -> u16
     ensures { λ r. ⌜ r ≡ smallest (combinedDepths positions (now (ab .entry)) (now (ba .entry))) ⌝ }
 {
-    let mut found = combined_depth(positions, ab, ba, 0);
+    if positions == 0 {
+        return 0;
+    }
+    let mut found = combined_depth(ab, ba, 0);
     let mut i = 0;
     while i < positions {
-        found = min_u16(found, combined_depth(positions, ab, ba, i));
+        found = min_u16(found, combined_depth(ab, ba, i));
         i += 1;
     }
     found
@@ -93,7 +92,7 @@ fn largest_combined(positions: usize, ab: &[u16], ba: &[u16]) -> u16
     let mut found = 0;
     let mut i = 0;
     while i < positions {
-        found = max_u16(found, combined_depth(positions, ab, ba, i));
+        found = max_u16(found, combined_depth(ab, ba, i));
         i += 1;
     }
     found

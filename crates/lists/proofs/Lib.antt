@@ -6,4 +6,5 @@ pub mod Output
 pub mod Part
 pub mod Place
 pub mod Table
+pub mod Told
 pub mod Written

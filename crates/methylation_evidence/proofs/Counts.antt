@@ -1,12 +1,12 @@
 -- How many counts a tag has, and which stands at a position.
 --     counts-length, count-at       of one annotation
---     summed-length, summed-at      of two
+--     summed-length                 of two
 -- Assumes nothing.
 use mathlib.Core.Path.{_≡_, sym}
 use mathlib.Core.List.{List}
-use Prim.Native.Nat.{ℕ, _<_}
+use Prim.Native.Nat.{ℕ}
 use lib.ListN.{length, getD, length-map, List·getD-map}
-use Rattle.lists.proofs.Table.{length-tabulate, getD-tabulate}
+use Rattle.lists.proofs.Table.{length-tabulate}
 use Rattle.methylation_evidence.specs.Counts.{tagCount, tagCounts, summedCount, summedCounts}
 
 pub counts-length : (counts : List ℕ) → length (tagCounts counts) ≡ length counts
@@ -20,7 +20,3 @@ count-at counts i = sym (List·getD-map tagCount counts i 0)
 pub summed-length : (n : ℕ) (a b : List ℕ) → length (summedCounts n a b) ≡ n
 unfolding summedCounts
 summed-length n a b = length-tabulate n (summedCount a b)
-
-pub summed-at : (n : ℕ) (a b : List ℕ) {i : ℕ} → i < n → summedCount a b i ≡ getD (summedCounts n a b) i 0
-unfolding summedCounts
-summed-at n a b {i} h = sym (getD-tabulate n (summedCount a b) i 0 h)

@@ -1,13 +1,13 @@
 -- The loop that clears evidence in place: after i turns the first i positions of each array are gated, the others as they were.
 --     begin-gate, next-gate, done-gate     the invariant's beginning, a turn, and the end
 -- Assumes nothing.
-use mathlib.Core.Path.{_≡_, sym}
+use mathlib.Core.Path.{_≡_, ap}
 use Prim.Native.Nat.{ℕ, _+_, _≤_, _<_}
 use native.Mathlib.Omega.{arith}
 use lib.ListN.{length, getD, set}
 use Rattle.lists.specs.Output.{unless, after}
-use Rattle.lists.proofs.Output.{Filling, begin, next, done}
-use Rattle.lists.proofs.Table.{length-tabulate, getD-tabulate}
+use Rattle.lists.proofs.Output.{Filling, done}
+use Rattle.lists.proofs.Told.{begin-table, next-table}
 use Rattle.lists.proofs.Written.{unwritten}
 use Rattle.methylation.specs.Methylation.{evidenceIf}
 use Rattle.methylation.specs.declared.Evidence.{Evidence}
@@ -22,24 +22,10 @@ pub record Gating (n : ℕ) (e : EvidenceArrays) (i : ℕ) (now : EvidenceArrays
 pub begin-gate : (e : EvidenceArrays) → length (e .unconverted) ≡ length (e .marks) → length (e .converted) ≡ length (e .marks) → Gating (length (e .marks)) e 0 e
 unfolding gated
 begin-gate e u c = record {
-  marks = begin (length-tabulate _ _) (omega arith);
-  unconverted = begin (length-tabulate _ _) (omega arith);
-  converted = begin (length-tabulate _ _) (omega arith);
+  marks = begin-table _ (omega arith);
+  unconverted = begin-table _ (omega arith);
+  converted = begin-table _ (omega arith);
 }
-
--- What is written at a position.
-module _ (e : EvidenceArrays) {i : ℕ} (h : i < length (e .marks)) where
-  mark-at : gatedAt e i .mark ≡ getD (gated e .marks) i 0
-  unfolding gated
-  mark-at = sym (getD-tabulate _ (λ k. gatedAt e k .mark) i 0 h)
-
-  unconverted-at : gatedAt e i .unconverted ≡ getD (gated e .unconverted) i 0
-  unfolding gated
-  unconverted-at = sym (getD-tabulate _ (λ k. gatedAt e k .unconverted) i 0 h)
-
-  converted-at : gatedAt e i .converted ≡ getD (gated e .converted) i 0
-  unfolding gated
-  converted-at = sym (getD-tabulate _ (λ k. gatedAt e k .converted) i 0 h)
 
 -- v is the evidence that a turn writes, from what stands at i.
 pub next-gate :
@@ -48,12 +34,13 @@ pub next-gate :
     → i < length (e .marks)
     → v ≡ evidenceIf (informative (getD (now .marks) i 0)) (getD (now .unconverted) i 0) (getD (now .converted) i 0)
     → Gating (length (e .marks)) e (i + 1) (evidenceArrays (set (now .marks) i (v .mark)) (set (now .unconverted) i (v .unconverted)) (set (now .converted) i (v .converted)))
+unfolding gated
 next-gate {e} {now} {i} {v} g h is =
     let here : v ≡ gatedAt e i = rw (unwritten 0 (g .marks), unwritten 0 (g .unconverted), unwritten 0 (g .converted)) at is in
     record {
-      marks = next 0 _ (g .marks) h (rw here (mark-at e h));
-      unconverted = next 0 _ (g .unconverted) h (rw here (unconverted-at e h));
-      converted = next 0 _ (g .converted) h (rw here (converted-at e h));
+      marks = next-table (λ k. gatedAt e k .mark) _ (g .marks) h (ap (λ (x : Evidence). x .mark) here);
+      unconverted = next-table (λ k. gatedAt e k .unconverted) _ (g .unconverted) h (ap (λ (x : Evidence). x .unconverted) here);
+      converted = next-table (λ k. gatedAt e k .converted) _ (g .converted) h (ap (λ (x : Evidence). x .converted) here);
     }
 
 pub done-gate : {n i : ℕ} {e now : EvidenceArrays} → Gating n e i now → n ≤ i → LeavesEvidence 0 (gated e) e now

@@ -1,21 +1,21 @@
 -- Laws of restoring, by position.
 --     restored-here, kept-here         one base, by the outcome of its test
---     restored-length, restored-at     how many bases, and which stands at a position
+--     restored-length                  how many bases
 --     restored-copy                    what restoring a copy leaves in the output
 --     strand-absent, strand-of         a strand without an annotation, and with one
 --     strand-room                      what holds where a strand is not refused
 -- Assumes nothing.
-use mathlib.Core.Path.{_≡_, sym, ap}
+use mathlib.Core.Path.{_≡_, ap}
 use mathlib.Core.Bool.{Bool, true, false, not, _&&_}
 use mathlib.Core.List.{List}
-use Prim.Native.Nat.{ℕ, _≤_, _<_}
+use Prim.Native.Nat.{ℕ, _≤_}
 use borrow.Author.Tests.{ltb-false, eqb-true, not-false}
 use lib.Dec.{eqb}
 use lib.ListN.{length, getD}
 use native.Mathlib.Omega.{arith}
 use Rattle.lists.specs.Output.{put}
 use Rattle.lists.proofs.Output.{put-over}
-use Rattle.lists.proofs.Table.{length-tabulate, getD-tabulate, tabulate-equal}
+use Rattle.lists.proofs.Table.{length-tabulate, tabulate-equal}
 use Rattle.lists.proofs.Written.{getD-put}
 use Rattle.dna.specs.Dna.{sameLetter}
 use Rattle.refusals.specs.Refusal.{refusal}
@@ -41,10 +41,6 @@ module _ (letters : PatternBases) (marks bases : List ℕ) where
   pub restored-length : (n : ℕ) → length (restoredTo n letters marks bases) ≡ n
   unfolding restoredTo
   restored-length n = length-tabulate n (restoredAt letters marks bases)
-
-  pub restored-at : (n : ℕ) {i : ℕ} → i < n → restoredAt letters marks bases i ≡ getD (restoredTo n letters marks bases) i 0
-  unfolding restoredTo
-  restored-at n {i} h = sym (getD-tabulate n (restoredAt letters marks bases) i 0 h)
 
   restored-front : (out : List ℕ) → restoredTo (length bases) letters marks (put bases out) ≡ restoredTo (length bases) letters marks bases
   unfolding restoredTo

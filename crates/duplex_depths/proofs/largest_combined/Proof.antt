@@ -6,7 +6,7 @@ use lib.ListN.{take}
 use Rattle.lists.proofs.Fold.{fold-step, fold-all}
 use Rattle.numbers.specs.Numbers.{largest}
 use Rattle.duplex_depths.specs.Depths.{combinedDepths}
-use Rattle.duplex_depths.proofs.Depths.{within, ended}
+use Rattle.duplex_depths.proofs.Depths.{within, ended, depth-at}
 use Rattle.duplex_depths.proofs.largest_combined.Statement.{statement}
 use Rattle.duplex_depths.proofs.largest_combined.Tie as tie
 
@@ -19,7 +19,8 @@ abbrev μ-loop : tie.MeasureT-loop
 loop-again : tie.Need-loop-again Inv-loop μ-loop
 loop-again c =
     let at-loop = c .before .before .before in
-    (omega arith, c .max-u16 .ensures ∙ fold-step max 0 _ _ 0 (within _ _ _ (c .before .before .loop-test .taken)) (at-loop .loop .inv .1) (c .before .combined-depth .ensures))
+    let more = c .before .before .loop-test .taken in
+    (omega arith, c .max-u16 .ensures ∙ fold-step max 0 _ _ 0 (within _ _ _ more) (at-loop .loop .inv .1) (c .before .combined-depth .ensures ∙ depth-at _ _ _ more))
 
 returns : tie.Need-returns Inv-loop μ-loop
 returns c = c .before .loop .inv .1 ∙ fold-all max 0 _ _ (ended _ _ _ (c .loop-test .left))

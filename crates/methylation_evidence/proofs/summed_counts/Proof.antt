@@ -1,7 +1,6 @@
 -- `methylation_evidence::summed_counts` meets its contract: refused by its number, or written where the output has room. Assumes nothing.
-use borrow.Author.Needs.{needs}
 use borrow.Author.Tests.{ltb-false}
-use Rattle.lists.proofs.Output.{answer-refused, answer-passed, after-refused, after-passed}
+use Rattle.lists.proofs.Told.{told-refused, told-written}
 use Rattle.refusals.proofs.Refusal.{passed}
 use Rattle.methylation_evidence.specs.Counts.{summedFaults}
 use Rattle.methylation_evidence.specs.declared.Positions.the-variants.{Refused}
@@ -9,9 +8,7 @@ use Rattle.methylation_evidence.proofs.summed_counts.Statement.{stateme
 use Rattle.methylation_evidence.proofs.summed_counts.Tie as tie
 
 returns : tie.Need-returns
-returns c =
-    let number = c .before .summed-refusal .ensures in
-    (answer-refused Refused _ number (c .if1 .taken), after-refused _ _ number (c .if1 .taken))
+returns c = told-refused Refused _ _ _ (c .before .summed-refusal .ensures) (c .if1 .taken)
 
 write-summed-requires : tie.Need-write-summed-requires
 unfolding summedFaults
@@ -21,9 +18,7 @@ write-summed-requires c κs =
 returns-2 : tie.Need-returns-2
 returns-2 c =
     let at-test = c .before .before .before .before in
-    let number = at-test .before .summed-refusal .ensures in
-    let zero = at-test .if1 .left in
-    (answer-passed Refused _ number zero, rw (c .before .before .write-summed .ensures) (after-passed _ _ number zero))
+    told-written Refused _ _ _ (at-test .before .summed-refusal .ensures) (at-test .if1 .left) (c .before .before .write-summed .ensures)
 
 pub summed-counts-spec : {M : Type 1} → statement M
-summed-counts-spec = tie.close (tie.spec (λ c κs. tt) returns write-summed-requires (λ c. search needs) returns-2)
+summed-counts-spec = tie.close (tie.spec (λ c κs. tt) returns write-summed-requires (λ c. c .before .out .given) returns-2)

@@ -1,16 +1,13 @@
 -- `methylation_restore::methylation_strand_bases` meets its contract: refused by its number, or written where the output has room.
 -- Assumes nothing.
-use borrow.Author.Needs.{needs}
-use Rattle.lists.proofs.Output.{answer-refused, answer-passed, after-refused, after-passed}
+use Rattle.lists.proofs.Told.{told-refused, told-written}
 use Rattle.methylation_evidence.specs.declared.Positions.the-variants.{Refused}
 use Rattle.methylation_restore.proofs.Restored.{strand-room}
 use Rattle.methylation_restore.proofs.methylation_strand_bases.Statement.{statement}
 use Rattle.methylation_restore.proofs.methylation_strand_bases.Tie as tie
 
 returns : tie.Need-returns
-returns c =
-    let number = c .before .strand-refusal .ensures in
-    (answer-refused Refused _ number (c .if1 .taken), after-refused _ _ number (c .if1 .taken))
+returns c = told-refused Refused _ _ _ (c .before .strand-refusal .ensures) (c .if1 .taken)
 
 write-strand-bases-requires : tie.Need-write-strand-bases-requires
 write-strand-bases-requires c κs =
@@ -20,9 +17,7 @@ returns-2 : tie.Need-returns-2
 returns-2 c =
     let written = c .before .before in
     let at-test = written .before .before in
-    let number = at-test .before .strand-refusal .ensures in
-    let zero = at-test .if1 .left in
-    (answer-passed Refused _ number zero, rw (written .write-strand-bases .ensures) (after-passed _ _ number zero))
+    told-written Refused _ _ _ (at-test .before .strand-refusal .ensures) (at-test .if1 .left) (written .write-strand-bases .ensures)
 
 pub methylation-strand-bases-spec : {M : Type 1} → statement M
 methylation-strand-bases-spec =
@@ -31,5 +26,5 @@ methylation-strand-bases-spec =
     (λ c κs. tt)
     returns
     write-strand-bases-requires
-    (λ c. search needs)
+    (λ c. c .before .out .given)
     returns-2)

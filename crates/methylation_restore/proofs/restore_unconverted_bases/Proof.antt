@@ -1,11 +1,10 @@
 -- `methylation_restore::restore_unconverted_bases` meets its contract: refused by its number, or restored. Assumes nothing.
-use mathlib.Core.Path.{_≡_, _∙_}
+use mathlib.Core.Path.{_≡_}
 use native.Mathlib.Omega.{arith}
 use denote.Ref.{now}
 use lib.ListN.{length}
-use borrow.Author.Needs.{needs}
 use borrow.Author.Tests.{eqb-true, not-false}
-use Rattle.lists.proofs.Output.{answer-refused, answer-passed, after-refused, after-passed}
+use Rattle.lists.proofs.Told.{told-refused, told-written}
 use Rattle.refusals.proofs.Refusal.{passed}
 use Rattle.methylation_evidence.specs.declared.Positions.the-variants.{Refused}
 use Rattle.methylation_restore.specs.Restore.{restoreFaults}
@@ -13,9 +12,7 @@ use Rattle.methylation_restore.proofs.restore_unconverted_bases.Stateme
 use Rattle.methylation_restore.proofs.restore_unconverted_bases.Tie as tie
 
 returns : tie.Need-returns
-returns c =
-    let number = c .before .restore-refusal .ensures in
-    (answer-refused Refused _ number (c .if1 .taken), after-refused _ _ number (c .if1 .taken))
+returns c = told-refused Refused _ _ _ (c .before .restore-refusal .ensures) (c .if1 .taken)
 
 -- Not refused, there are as many marks as bases.
 as-many : (c : tie.Else1) → length (now (c .before .before .before .before .args .marks)) ≡ length (now (c .before .before .before .before .args .consensus-bases))
@@ -29,11 +26,7 @@ returns-2 : tie.Need-returns-2
 returns-2 c =
     let restored = c .before .before in
     let at-test = restored .before .before .before in
-    let number = at-test .before .restore-refusal .ensures in
-    let zero = at-test .if1 .left in (
-      answer-passed Refused _ number zero,
-      (rw (restored .before .bases .ensures, as-many at-test) at (restored .restore .ensures)) ∙ after-passed _ _ number zero,
-    )
+    told-written Refused _ _ _ (at-test .before .restore-refusal .ensures) (at-test .if1 .left) (rw (restored .before .bases .ensures, as-many at-test) at (restored .restore .ensures))
 
 pub restore-unconverted-bases-spec : {M : Type 1} → statement M
-restore-unconverted-bases-spec = tie.close (tie.spec (λ c κs. tt) returns (λ c κs. tt) restore-requires (λ c. search needs) returns-2)
+restore-unconverted-bases-spec = tie.close (tie.spec (λ c κs. tt) returns (λ c κs. tt) restore-requires (λ c. c .before .consensus-bases .given) returns-2)
