@@ -3,41 +3,44 @@
 --     needed-lengths               how many counts go to each output
 --     refused-first                the number of its own test
 --     Passed, passed-first         what that test leaves, and that the number then is that of the texts
---     CountRoom, enough-room       the room that it leaves
+--     enough-room                  the room that it leaves
 --     number-is                    the number that the texts' answer has
 -- Assumes nothing.
-use mathlib.Core.Path.{_≡_, refl, sym, ap, _∙_}
-use mathlib.Core.Bool.{Bool, true, false, cond, _||_}
+use mathlib.Core.Path.{_≡_, refl, sym, ap, ap₂, _∙_}
+use mathlib.Core.Bool.{Bool, true, false, cond, _||_, true≢false}
 use mathlib.Core.List.{List, [], _∷_}
-use Prim.Native.Nat.{ℕ, zero, suc, _≤_}
+use Prim.Native.Nat.{ℕ, zero, suc}
 use native.Mathlib.Omega.{arith}
 use lib.Dec.{eqb}
 use lib.ListN.{length}
 use borrow.Author.Tests.{ltb-false, eqb-true, eqb-false}
 use Rattle.lists.specs.Output.{unless, answer}
-use Rattle.refusals.specs.Refusal.{_if_, refusal, refuseIf}
+use Rattle.refusals.specs.Refusal.{Fault, _if_, refusal, refuseIf}
 use Rattle.refusals.proofs.Condition.{neither}
 use Rattle.refusals.proofs.Refusal.{and-then}
+use Rattle.methylation.specs.Methylation.{isAnnotated}
+use Rattle.methylation.specs.declared.Annotation.{Annotation}
 use Rattle.methylation.specs.declared.MethylationMode.{MethylationMode}
 use Rattle.methylation_evidence.proofs.Counts.{summed-length}
 use Rattle.duplex_texts.specs.Texts.{Strand, TextArrays, duplexTexts}
 use Rattle.duplex_texts.specs.Outputs.{textLengths, givenFaults, givenOf, textsTooShort, textsFaults, textsRefused, written}
-use Rattle.duplex_texts.specs.Parts.{AsLong}
 use Rattle.duplex_texts.specs.declared.DuplexTexts.{DuplexTexts}
 use Rattle.duplex_texts.specs.declared.DuplexTexts.the-variants.{Refused}
 use Rattle.duplex_texts.specs.declared.TextLengths.{TextLengths}
 use Rattle.duplex_texts.proofs.Refused.{as-long}
-use Rattle.duplex_tags.specs.Tags.{CountArrays, countsOf, duplexCounts}
-use Rattle.duplex_tags.specs.Outputs.{countLengths, countsTooShort, duplexFaults, duplexRefused}
+use Rattle.duplex_tags.specs.Tags.{CountArrays, countsOf, kindCounts, duplexCounts}
+use Rattle.duplex_tags.specs.Outputs.{kindLengths, RoomKind, kindTooShort, countsTooShort, duplexFaults, duplexRefused}
 use Rattle.duplex_tags.specs.Parts.{neededCounts, numberOf}
-use Rattle.duplex_tags.specs.declared.CountLengths.{CountLengths}
+use Rattle.duplex_tags.specs.declared.KindLengths.{KindLengths}
 use Rattle.duplex_tags.proofs.Counts.{tag-length}
 
-pub needed-lengths : (n : ℕ) (a b : Strand) → AsLong n a → AsLong n b → neededCounts n (a .annotation) (b .annotation) ≡ countLengths (duplexCounts n a b)
-unfolding duplexCounts
-needed-lengths n a b for-a for-b =
-    rw
-    (tag-length (a .annotation) n (a .unconverted) (for-a .unconverted), tag-length (a .annotation) n (a .converted) (for-a .converted), tag-length (b .annotation) n (b .unconverted) (for-b .unconverted), tag-length (b .annotation) n (b .converted) (for-b .converted), summed-length n (countsOf (a .annotation) (a .unconverted)) (countsOf (b .annotation) (b .unconverted)), summed-length n (countsOf (a .annotation) (a .converted)) (countsOf (b .annotation) (b .converted)))
+pub needed-lengths :
+    (n : ℕ) (a b : Annotation) (xs ys : List ℕ)
+    → (isAnnotated a ≡ true → length xs ≡ n)
+    → (isAnnotated b ≡ true → length ys ≡ n)
+    → neededCounts n a b ≡ kindLengths (kindCounts n a xs b ys)
+unfolding kindCounts
+needed-lengths n a b xs ys for-a for-b = rw (tag-length a n xs for-a, tag-length b n ys for-b, summed-length n (countsOf a xs) (countsOf b ys))
 
 -- A single test of row 12.
 room-alone : (short : Bool) → refusal ((12 if short) ∷ []) ≡ cond short 12 0
@@ -52,7 +55,7 @@ module _ (mode : MethylationMode) (bases : List ℕ) (a b : Strand) (texts : Tex
   short = textsTooShort (textLengths (duplexTexts mode bases a b)) (textLengths texts)
 
   abbrev few : Bool
-  few = countsTooShort (countLengths (duplexCounts (length bases) a b)) (countLengths counts)
+  few = countsTooShort (duplexCounts (length bases) a b) counts
 
   pub all-tests : duplexRefused mode bases a b texts counts ≡ cond (eqb given 0) (cond (short || few) 12 0) given
   unfolding duplexFaults givenFaults
@@ -63,13 +66,18 @@ module _ (mode : MethylationMode) (bases : List ℕ) (a b : Strand) (texts : Tex
   texts-tests = and-then (givenOf bases a b) ((12 if short) ∷ []) refl tt ∙ ap (λ (k : ℕ). cond (eqb given 0) k given) (room-alone short)
 
   -- What the call's own test looks at is what is written, where the sequence and the evidence are not refused.
-  abbrev own : Bool
-  own = countsTooShort (neededCounts (length bases) (a .annotation) (b .annotation)) (countLengths counts)
+  abbrev needed : KindLengths
+  needed = neededCounts (length bases) (a .annotation) (b .annotation)
 
-  own-is : given ≡ 0 → own ≡ few
+  abbrev own : Bool
+  own = kindTooShort needed (kindLengths (counts .unconverted)) || kindTooShort needed (kindLengths (counts .converted))
+
+  pub own-is : given ≡ 0 → own ≡ few
   own-is z =
       let (for-a, for-b) = as-long (length bases) a b refl z in
-      rw (needed-lengths (length bases) a b for-a for-b)
+      ap₂ _||_
+      (ap (λ (k : KindLengths). kindTooShort k (kindLengths (counts .unconverted))) (needed-lengths (length bases) (a .annotation) (b .annotation) (a .evidence .unconverted) (b .evidence .unconverted) (for-a .unconverted) (for-b .unconverted)))
+      (ap (λ (k : KindLengths). kindTooShort k (kindLengths (counts .converted))) (needed-lengths (length bases) (a .annotation) (b .annotation) (a .evidence .converted) (b .evidence .converted) (for-a .converted) (for-b .converted)))
 
   either : (s f : Bool) → f ≡ true → _≡_ {A = ℕ} (cond (s || f) 12 0) 12
   either true f e = refl
@@ -130,31 +138,17 @@ module _ (mode : MethylationMode) (bases : List ℕ) (a b : Strand) (texts : Tex
           let same : n ≡ given = rw g at e in
           absurd (eqb-false given 0 g (sym same ∙ z))
 
--- Each output of counts has room for what goes there.
-pub record CountRoom (needed out : CountLengths) : Type 0 where
-  pub aUnconverted : needed .aUnconverted ≤ out .aUnconverted
-  pub aConverted : needed .aConverted ≤ out .aConverted
-  pub bUnconverted : needed .bUnconverted ≤ out .bUnconverted
-  pub bConverted : needed .bConverted ≤ out .bConverted
-  pub unconverted : needed .unconverted ≤ out .unconverted
-  pub converted : needed .converted ≤ out .converted
-
-pub enough-room : (needed out : CountLengths) → countsTooShort needed out ≡ false → CountRoom needed out
-unfolding countsTooShort
-enough-room needed out e =
+kind-room : (needed out : KindLengths) → kindTooShort needed out ≡ false → RoomKind needed out
+unfolding kindTooShort
+kind-room needed out e =
     let (h1, r1) = neither _ _ e in
-    let (h2, r2) = neither _ _ r1 in
-    let (h3, r3) = neither _ _ r2 in
-    let (h4, r4) = neither _ _ r3 in
-    let (h5, h6) = neither _ _ r4 in
-    record {
-      aUnconverted = ltb-false _ _ h1;
-      aConverted = ltb-false _ _ h2;
-      bUnconverted = ltb-false _ _ h3;
-      bConverted = ltb-false _ _ h4;
-      unconverted = ltb-false _ _ h5;
-      converted = ltb-false _ _ h6;
-    }
+    let (h2, h3) = neither _ _ r1 in
+    record { a = ltb-false _ _ h1; b = ltb-false _ _ h2; both = ltb-false _ _ h3 }
+
+pub enough-room : (needed unconverted converted : KindLengths) → (kindTooShort needed unconverted || kindTooShort needed converted) ≡ false → RoomKind needed unconverted × RoomKind needed converted
+enough-room needed unconverted converted e =
+    let (h, k) = neither _ _ e in
+    (kind-room needed unconverted h, kind-room needed converted k)
 
 pub number-is : (number : ℕ) (n : TextLengths) {r : DuplexTexts} → r ≡ answer Refused number (written n) → numberOf r ≡ number
 unfolding answer unless

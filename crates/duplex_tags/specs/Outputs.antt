@@ -11,36 +11,36 @@ use Rattle.methylation.specs.declared.MethylationMode.{MethylationMode}
 use Rattle.duplex_texts.specs.Texts.{Strand, TextArrays, duplexTexts}
 use Rattle.duplex_texts.specs.Outputs.{textLengths, givenOf, textsTooShort, LeavesTexts}
 use Rattle.duplex_texts.specs.declared.TextLengths.{TextLengths}
-use Rattle.duplex_tags.specs.Tags.{CountArrays, duplexCounts}
-use Rattle.duplex_tags.specs.declared.CountLengths.{CountLengths}
+use Rattle.duplex_tags.specs.Tags.{KindArrays, CountArrays, duplexCounts}
 use Rattle.duplex_tags.specs.declared.DuplexMethylationTags.{DuplexMethylationTags}
 use Rattle.duplex_tags.specs.declared.DuplexMethylationTags.the-variants.{Refused, Tags}
+use Rattle.duplex_tags.specs.declared.KindLengths.{KindLengths}
 
-abbrev pub countLengths : CountArrays → CountLengths
-countLengths t = record {
-  aUnconverted = length (t .aUnconverted);
-  aConverted = length (t .aConverted);
-  bUnconverted = length (t .bUnconverted);
-  bConverted = length (t .bConverted);
-  unconverted = length (t .unconverted);
-  converted = length (t .converted);
-}
+abbrev pub kindLengths : KindArrays → KindLengths
+kindLengths t = record { a = length (t .a); b = length (t .b); both = length (t .both) }
 
--- Some output of counts is shorter than what goes there.
-unfoldable pub countsTooShort : CountLengths → CountLengths → Bool
-countsTooShort needed out =
-    ltb (out .aUnconverted) (needed .aUnconverted)
-    || (ltb (out .aConverted) (needed .aConverted)
-    || (ltb (out .bUnconverted) (needed .bUnconverted)
-    || (ltb (out .bConverted) (needed .bConverted)
-    || (ltb (out .unconverted) (needed .unconverted)
-    || ltb (out .converted) (needed .converted)))))
+-- Each output of one kind of counts has room for what goes there.
+pub record RoomKind (needed out : KindLengths) : Type 0 where
+  pub a : needed .a ≤ out .a
+  pub b : needed .b ≤ out .b
+  pub both : needed .both ≤ out .both
+
+-- Some output of one kind is shorter than what goes there.
+unfoldable pub kindTooShort : KindLengths → KindLengths → Bool
+kindTooShort needed out =
+    ltb (out .a) (needed .a)
+    || (ltb (out .b) (needed .b)
+    || ltb (out .both) (needed .both))
+
+-- Some output of counts is.
+abbrev pub countsTooShort : CountArrays → CountArrays → Bool
+countsTooShort counts out = kindTooShort (kindLengths (counts .unconverted)) (kindLengths (out .unconverted)) || kindTooShort (kindLengths (counts .converted)) (kindLengths (out .converted))
 
 -- The outputs of the texts, and those of the counts.
 unfoldable pub duplexFaults : MethylationMode → List ℕ → Strand → Strand → TextArrays → CountArrays → List Fault
 duplexFaults mode bases a b texts counts =
     givenOf bases a b
-    ++ (12 if (textsTooShort (textLengths (duplexTexts mode bases a b)) (textLengths texts) || countsTooShort (countLengths (duplexCounts (length bases) a b)) (countLengths counts)))
+    ++ (12 if (textsTooShort (textLengths (duplexTexts mode bases a b)) (textLengths texts) || countsTooShort (duplexCounts (length bases) a b) counts))
     ∷ []
 
 abbrev pub duplexRefused : MethylationMode → List ℕ → Strand → Strand → TextArrays → CountArrays → ℕ
@@ -50,14 +50,16 @@ duplexRefused mode bases a b texts counts = refusal (duplexFaults mode bases a b
 abbrev pub tagged : TextLengths → DuplexMethylationTags
 tagged n = Tags (n .seq) (n .aMm) (n .bMm) (n .mm) (n .ml)
 
--- What a call leaves in the outputs of counts, where it was refused with a number (0: not refused) or else writes these.
+-- What a call leaves in the outputs of one kind of counts, where it was refused with a number (0: not refused) or else writes these.
+pub record LeavesKind (number : ℕ) (counts before now : KindArrays) : Type 0 where
+  pub a : now .a ≡ after number (counts .a) (before .a)
+  pub b : now .b ≡ after number (counts .b) (before .b)
+  pub both : now .both ≡ after number (counts .both) (before .both)
+
+-- The same of both kinds.
 pub record LeavesCounts (number : ℕ) (counts before now : CountArrays) : Type 0 where
-  pub aUnconverted : now .aUnconverted ≡ after number (counts .aUnconverted) (before .aUnconverted)
-  pub aConverted : now .aConverted ≡ after number (counts .aConverted) (before .aConverted)
-  pub bUnconverted : now .bUnconverted ≡ after number (counts .bUnconverted) (before .bUnconverted)
-  pub bConverted : now .bConverted ≡ after number (counts .bConverted) (before .bConverted)
-  pub unconverted : now .unconverted ≡ after number (counts .unconverted) (before .unconverted)
-  pub converted : now .converted ≡ after number (counts .converted) (before .converted)
+  pub unconverted : LeavesKind number (counts .unconverted) (before .unconverted) (now .unconverted)
+  pub converted : LeavesKind number (counts .converted) (before .converted) (now .converted)
 
 -- What a call of `duplex_methylation_tags` answers and leaves in its outputs.
 pub record DuplexTaggedAs (mode : MethylationMode) (bases : List ℕ) (a b : Strand) (texts : TextArrays) (counts : CountArrays) (textsNow : TextArrays) (countsNow : CountArrays) (r : DuplexMethylationTags) : Type 0 where
@@ -65,11 +67,6 @@ pub record DuplexTaggedAs (mode : MethylationMode) (bases : List ℕ) (a b : Str
   pub the-texts : LeavesTexts (duplexRefused mode bases a b texts counts) (duplexTexts mode bases a b) texts textsNow
   pub the-counts : LeavesCounts (duplexRefused mode bases a b texts counts) (duplexCounts (length bases) a b) counts countsNow
 
--- Outputs of counts that are never too short for a sequence of n bases.
-pub record AmpleCounts (n : ℕ) (out : CountArrays) : Type 0 where
-  pub aUnconverted : n ≤ length (out .aUnconverted)
-  pub aConverted : n ≤ length (out .aConverted)
-  pub bUnconverted : n ≤ length (out .bUnconverted)
-  pub bConverted : n ≤ length (out .bConverted)
-  pub unconverted : n ≤ length (out .unconverted)
-  pub converted : n ≤ length (out .converted)
+-- How many places each output of one kind of counts needs at most for a sequence of n bases.
+abbrev pub mostCounts : ℕ → KindLengths
+mostCounts n = record { a = n; b = n; both = n }

@@ -6,24 +6,17 @@ use Rattle.methylation.specs.Methylation.{isAnnotated}
 use Rattle.methylation.specs.declared.Annotation.{Annotation}
 use Rattle.duplex_texts.specs.declared.DuplexTexts.{DuplexTexts}
 use Rattle.duplex_texts.specs.declared.DuplexTexts.the-variants.{Refused, Texts}
-use Rattle.duplex_tags.specs.declared.CountLengths.{CountLengths}
 use Rattle.duplex_tags.specs.declared.DuplexMethylationTags.{DuplexMethylationTags}
 use Rattle.duplex_tags.specs.declared.DuplexMethylationTags.the-variants.{Refused as Refused-tags, Tags}
+use Rattle.duplex_tags.specs.declared.KindLengths.{KindLengths}
 
 -- How many counts a strand has.
 abbrev pub placesOf : Annotation → ℕ → ℕ
 placesOf annotation positions = cond (isAnnotated annotation) positions 0
 
--- How many go to each output.
-abbrev pub neededCounts : ℕ → Annotation → Annotation → CountLengths
-neededCounts positions a b = record {
-  aUnconverted = placesOf a positions;
-  aConverted = placesOf a positions;
-  bUnconverted = placesOf b positions;
-  bConverted = placesOf b positions;
-  unconverted = positions;
-  converted = positions;
-}
+-- How many of one kind go to each output.
+abbrev pub neededCounts : ℕ → Annotation → Annotation → KindLengths
+neededCounts positions a b = record { a = placesOf a positions; b = placesOf b positions; both = positions }
 
 -- So many counts of a strand, and an output of a length that has room for them.
 pub record Countable (positions : ℕ) (annotation : Annotation) (counts out : ℕ) : Type 0 where

@@ -11,32 +11,32 @@ use Rattle.duplex_texts.specs.Texts.{Strand}
 unfoldable pub countsOf : Annotation → List ℕ → List ℕ
 countsOf annotation counts = onlyIf (isAnnotated annotation) counts
 
--- The counts of the first strand, of the second, and summed.
-pub record CountArrays : Type 0 where
-  pub aUnconverted : List ℕ
-  pub aConverted : List ℕ
-  pub bUnconverted : List ℕ
-  pub bConverted : List ℕ
-  pub unconverted : List ℕ
-  pub converted : List ℕ
+-- Counts of one kind, unconverted or converted: of the first strand, of the second, and summed.
+pub record KindArrays : Type 0 where
+  pub a : List ℕ
+  pub b : List ℕ
+  pub both : List ℕ
 
-abbrev pub countArrays : List ℕ → List ℕ → List ℕ → List ℕ → List ℕ → List ℕ → CountArrays
-countArrays au ac bu bc u c = record {
-  aUnconverted = au;
-  aConverted = ac;
-  bUnconverted = bu;
-  bConverted = bc;
-  unconverted = u;
-  converted = c;
-}
+abbrev pub kindArrays : List ℕ → List ℕ → List ℕ → KindArrays
+kindArrays a b both = record { a = a; b = b; both = both }
 
 -- Those of a record of n positions.
-unfoldable pub duplexCounts : ℕ → Strand → Strand → CountArrays
+unfoldable pub kindCounts : ℕ → Annotation → List ℕ → Annotation → List ℕ → KindArrays
+kindCounts n a aCounts b bCounts = record {
+  a = tagCounts (countsOf a aCounts);
+  b = tagCounts (countsOf b bCounts);
+  both = summedCounts n (countsOf a aCounts) (countsOf b bCounts);
+}
+
+pub record CountArrays : Type 0 where
+  pub unconverted : KindArrays
+  pub converted : KindArrays
+
+abbrev pub countArrays : List ℕ → List ℕ → List ℕ → List ℕ → List ℕ → List ℕ → CountArrays
+countArrays au ac bu bc u c = record { unconverted = kindArrays au bu u; converted = kindArrays ac bc c }
+
+abbrev pub duplexCounts : ℕ → Strand → Strand → CountArrays
 duplexCounts n a b = record {
-  aUnconverted = tagCounts (countsOf (a .annotation) (a .unconverted));
-  aConverted = tagCounts (countsOf (a .annotation) (a .converted));
-  bUnconverted = tagCounts (countsOf (b .annotation) (b .unconverted));
-  bConverted = tagCounts (countsOf (b .annotation) (b .converted));
-  unconverted = summedCounts n (countsOf (a .annotation) (a .unconverted)) (countsOf (b .annotation) (b .unconverted));
-  converted = summedCounts n (countsOf (a .annotation) (a .converted)) (countsOf (b .annotation) (b .converted));
+  unconverted = kindCounts n (a .annotation) (a .evidence .unconverted) (b .annotation) (b .evidence .unconverted);
+  converted = kindCounts n (a .annotation) (a .evidence .converted) (b .annotation) (b .evidence .converted);
 }

@@ -1,15 +1,14 @@
 // The methylation tags of a duplex record, from methylation.rs: its texts and its counts. Uses lists, refusals, methylation,
 // methylation_evidence and duplex_texts.
 ghost use mathlib.Core.Path.{_≡_};
+ghost use mathlib.Core.Bool.{_||_};
 ghost use Prim.Native.Nat.{_≤_};
 ghost use lib.ListN.{length};
-ghost use Rattle.lists.specs.Output.{put};
 ghost use Rattle.refusals.specs.Refusal.{refusal, refuseIf};
-ghost use Rattle.methylation_evidence.specs.Counts.{tagCounts, summedCounts};
 ghost use Rattle.duplex_texts.specs.Texts.{strand, textArrays};
 ghost use Rattle.duplex_texts.specs.Outputs.{givenFaults};
-ghost use Rattle.duplex_tags.specs.Tags.{countsOf, countArrays};
-ghost use Rattle.duplex_tags.specs.Outputs.{countsTooShort, DuplexTaggedAs};
+ghost use Rattle.duplex_tags.specs.Tags.{kindArrays, kindCounts, countArrays};
+ghost use Rattle.duplex_tags.specs.Outputs.{kindTooShort, LeavesKind, DuplexTaggedAs};
 ghost use Rattle.duplex_tags.specs.Parts.{placesOf, neededCounts, Countable, numberOf, tagsOf};
 use duplex_texts::DuplexTexts;
 use duplex_texts::duplex_texts;
@@ -36,14 +35,11 @@ pub enum DuplexMethylationTags {
     },
 }
 
-// How many places each output of counts has, or how many go there.
-pub struct CountLengths {
-    pub aUnconverted: usize,
-    pub aConverted: usize,
-    pub bUnconverted: usize,
-    pub bConverted: usize,
-    pub unconverted: usize,
-    pub converted: usize,
+// How many places each output of one kind of counts has, or how many go there.
+pub struct KindLengths {
+    pub a: usize,
+    pub b: usize,
+    pub both: usize,
 }
 
 // How many counts a strand has.
@@ -57,36 +53,26 @@ fn places(annotation: Annotation, positions: usize) -> usize
     }
 }
 
-// How many counts go to each output.
+// How many counts of one kind go to each output.
 fn needed_counts(
     positions: usize,
     a_annotation: Annotation,
     b_annotation: Annotation,
-) -> CountLengths
+) -> KindLengths
     ensures { λ r. ⌜ r ≡ neededCounts positions «a_annotation» «b_annotation» ⌝ }
 {
-    let a_places = places(a_annotation, positions);
-    let b_places = places(b_annotation, positions);
-    CountLengths {
-        aUnconverted: a_places,
-        aConverted: a_places,
-        bUnconverted: b_places,
-        bConverted: b_places,
-        unconverted: positions,
-        converted: positions,
+    KindLengths {
+        a: places(a_annotation, positions),
+        b: places(b_annotation, positions),
+        both: positions,
     }
 }
 
-// Row 12's condition for the outputs of counts.
-fn counts_too_short(needed: CountLengths, out: CountLengths) -> bool
-    ensures { λ r. ⌜ r ≡ countsTooShort needed out ⌝ }
+// Row 12's condition for the outputs of one kind of counts.
+fn kind_too_short(needed: KindLengths, out: KindLengths) -> bool
+    ensures { λ r. ⌜ r ≡ kindTooShort needed out ⌝ }
 {
-    (out.aUnconverted < needed.aUnconverted)
-        | ((out.aConverted < needed.aConverted)
-            | ((out.bUnconverted < needed.bUnconverted)
-                | ((out.bConverted < needed.bConverted)
-                    | ((out.unconverted < needed.unconverted)
-                        | (out.converted < needed.converted)))))
+    (out.a < needed.a) | ((out.b < needed.b) | (out.both < needed.both))
 }
 
 // The number that refuses the sequence, the evidence, or the outputs of counts, 0 for none.
@@ -96,13 +82,15 @@ fn counts_refusal(
     a: EvidenceLengths,
     b_annotation: Annotation,
     b: EvidenceLengths,
-    out: CountLengths,
+    unconverted: KindLengths,
+    converted: KindLengths,
 ) -> u8
-    ensures { λ r. ⌜ r ≡ refuseIf (refusal (givenFaults bases «a_annotation» a «b_annotation» b)) (countsTooShort (neededCounts bases «a_annotation» «b_annotation») out) 12 ⌝ }
+    ensures { λ r. ⌜ r ≡ refuseIf (refusal (givenFaults bases «a_annotation» a «b_annotation» b)) (kindTooShort (neededCounts bases «a_annotation» «b_annotation») unconverted || kindTooShort (neededCounts bases «a_annotation» «b_annotation») converted) 12 ⌝ }
 {
     let number = given_refusal(bases, a_annotation, a, b_annotation, b);
     let needed = needed_counts(bases, a_annotation, b_annotation);
-    refuse_if(number, counts_too_short(needed, out), OUTPUT_TOO_SHORT)
+    let too_short = kind_too_short(needed, unconverted) | kind_too_short(needed, converted);
+    refuse_if(number, too_short, OUTPUT_TOO_SHORT)
 }
 
 // The number that refused the texts, 0 for none.
@@ -150,9 +138,10 @@ fn write_counts(
     requires { ⌜ Countable positions «a_annotation» (length (now a)) (length (now «a_out»)) ⌝ }
     requires { ⌜ Countable positions «b_annotation» (length (now b)) (length (now «b_out»)) ⌝ }
     requires { ⌜ positions ≤ length (now out) ⌝ }
-    ensures { λ _. ⌜ now («a_out» .exit) ≡ put (tagCounts (countsOf «a_annotation» (now (a .entry)))) (now («a_out» .entry)) ⌝ }
-    ensures { λ _. ⌜ now («b_out» .exit) ≡ put (tagCounts (countsOf «b_annotation» (now (b .entry)))) (now («b_out» .entry)) ⌝ }
-    ensures { λ _. ⌜ now (out .exit) ≡ put (summedCounts positions (countsOf «a_annotation» (now (a .entry))) (countsOf «b_annotation» (now (b .entry)))) (now (out .entry)) ⌝ }
+    ensures { λ _. ⌜ LeavesKind 0
+        (kindCounts positions «a_annotation» (now (a .entry)) «b_annotation» (now (b .entry)))
+        (kindArrays (now («a_out» .entry)) (now («b_out» .entry)) (now (out .entry)))
+        (kindArrays (now («a_out» .exit)) (now («b_out» .exit)) (now (out .exit))) ⌝ }
 {
     let a_places = places(a_annotation, positions);
     let b_places = places(b_annotation, positions);
@@ -211,13 +200,15 @@ pub fn duplex_methylation_tags(
         unconverted: b_unconverted.len(),
         converted: b_converted.len(),
     };
-    let out = CountLengths {
-        aUnconverted: a_unconverted_out.len(),
-        aConverted: a_converted_out.len(),
-        bUnconverted: b_unconverted_out.len(),
-        bConverted: b_converted_out.len(),
-        unconverted: unconverted_out.len(),
-        converted: converted_out.len(),
+    let unconverted = KindLengths {
+        a: a_unconverted_out.len(),
+        b: b_unconverted_out.len(),
+        both: unconverted_out.len(),
+    };
+    let converted = KindLengths {
+        a: a_converted_out.len(),
+        b: b_converted_out.len(),
+        both: converted_out.len(),
     };
     let number = counts_refusal(
         positions,
@@ -225,7 +216,8 @@ pub fn duplex_methylation_tags(
         a_evidence,
         b_annotation,
         b_evidence,
-        out,
+        unconverted,
+        converted,
     );
     if number != 0 {
         return DuplexMethylationTags::Refused(number);

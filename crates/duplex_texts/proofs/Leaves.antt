@@ -2,10 +2,10 @@
 --     leaves-refused     refused: every output is as it was
 --     leaves-passed      not refused: every output has its text written to its front
 -- Assumes nothing.
-use mathlib.Core.Path.{_≡_, _∙_}
+use mathlib.Core.Path.{_≡_}
 use Prim.Native.Nat.{ℕ}
-use Rattle.lists.specs.Output.{put}
-use Rattle.lists.proofs.Output.{after-refused, after-passed}
+use Rattle.lists.proofs.Output.{after-refused}
+use Rattle.lists.proofs.Told.{as-passed}
 use Rattle.duplex_texts.specs.Texts.{TextArrays}
 use Rattle.duplex_texts.specs.Outputs.{LeavesTexts}
 
@@ -18,19 +18,5 @@ leaves-refused e h = record {
   ml = after-refused _ _ e h;
 }
 
--- Every output has its text written to its front.
-pub record PutsTexts (texts before now : TextArrays) : Type 0 where
-  pub seq : now .seq ≡ put (texts .seq) (before .seq)
-  pub aMm : now .aMm ≡ put (texts .aMm) (before .aMm)
-  pub bMm : now .bMm ≡ put (texts .bMm) (before .bMm)
-  pub mm : now .mm ≡ put (texts .mm) (before .mm)
-  pub ml : now .ml ≡ put (texts .ml) (before .ml)
-
-pub leaves-passed : {texts before now : TextArrays} {n number : ℕ} → n ≡ number → n ≡ 0 → PutsTexts texts before now → LeavesTexts number texts before now
-leaves-passed e z p = record {
-  seq = p .seq ∙ after-passed _ _ e z;
-  aMm = p .aMm ∙ after-passed _ _ e z;
-  bMm = p .bMm ∙ after-passed _ _ e z;
-  mm = p .mm ∙ after-passed _ _ e z;
-  ml = p .ml ∙ after-passed _ _ e z;
-}
+pub leaves-passed : {texts before now : TextArrays} {n number : ℕ} → n ≡ number → n ≡ 0 → LeavesTexts 0 texts before now → LeavesTexts number texts before now
+leaves-passed {texts} {before} {now} e z l = as-passed (λ k. LeavesTexts k texts before now) e z l

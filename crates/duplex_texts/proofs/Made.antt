@@ -1,69 +1,89 @@
--- What follows once the sequence and the strands' texts are made in buffers.
---     buffered        the buffers hold them
+-- What follows once the strands' texts and the sequence are made in a buffer.
 --     few-bytes       how long two texts are together
 --     needed          how many places go to each output
---     all-put         what is written from the buffers is the definition's
+--     all-put         what is written from the buffer is the definition's
 -- Assumes nothing.
-use mathlib.Core.Path.{_≡_, sym}
+use mathlib.Core.Path.{_≡_, refl, sym, ap, _∙_}
 use mathlib.Core.Bool.{Bool}
-use mathlib.Core.List.{List}
+use mathlib.Core.List.{List, [], _++_, append-nil, append-assoc}
 use Prim.Native.Nat.{ℕ, _+_, _≤_}
 use native.Mathlib.Omega.{arith}
-use lib.ListN.{length}
-use Rattle.lists.proofs.Output.{put-holds, front-of}
+use lib.ListN.{length, take, length-append}
+use Rattle.lists.specs.Output.{unless, put, after}
+use Rattle.lists.specs.Part.{part}
+use Rattle.lists.proofs.Between.{part-between}
+use Rattle.lists.proofs.Output.{put-fitting}
 use Rattle.methylation.specs.declared.MethylationMode.{MethylationMode}
-use Rattle.duplex_texts.specs.Texts.{Strand, TextArrays, duplexSeq, strandMm, strandMl, secondFirst, duplexTexts}
-use Rattle.duplex_texts.specs.Outputs.{textLengths}
-use Rattle.duplex_texts.specs.Parts.{Buffers, MadeAs, Buffered, TextsPut, neededFor}
+use Rattle.duplex_texts.specs.Texts.{Strand, TextArrays, duplexSeq, strandMm, strandMl, secondFirst, grouped, duplexTexts}
+use Rattle.duplex_texts.specs.Outputs.{textLengths, RoomTexts, LeavesTexts}
+use Rattle.duplex_texts.specs.Parts.{MadeAs, secondAt, secondMlAt, seqAt, TextsPut, neededFor}
 use Rattle.duplex_texts.specs.declared.BothLengths.{BothLengths}
 use Rattle.duplex_texts.proofs.Texts.{seq-length, mm-most, ml-most, grouped-length}
-use Rattle.duplex_texts.proofs.Leaves.{PutsTexts}
 
-module _ {mode : MethylationMode} {bases : List ℕ} {a b : Strand} {before now : Buffers} {r : BothLengths} (m : MadeAs mode bases a b before now r) where
-  size : length (duplexSeq bases a b) ≡ length bases
-  size = seq-length bases (a .annotation) (a .marks) (b .annotation) (b .marks)
+-- An output with room for what was copied.
+fitting : (xs out : List ℕ) {now : List ℕ} → length xs ≤ length out → now ≡ put (take (length out) xs) out → now ≡ put xs out
+fitting xs out h e = e ∙ put-fitting xs out h
 
-  pub buffered : Buffered (length bases) r now
-  buffered =
-      let seq = duplexSeq bases a b in
-      record {
-        seq = omega (arith, size, put-holds seq (before .seq) (m .seq));
-        aMm = omega (arith, m .a-texts .mm-length, put-holds (strandMm mode seq a) (before .aMm) (m .a-texts .mm-text));
-        aMl = omega (arith, m .a-texts .ml-length, put-holds (strandMl mode seq a) (before .aMl) (m .a-texts .ml-array));
-        bMm = omega (arith, m .b-texts .mm-length, put-holds (strandMm mode seq b) (before .bMm) (m .b-texts .mm-text));
-        bMl = omega (arith, m .b-texts .ml-length, put-holds (strandMl mode seq b) (before .bMl) (m .b-texts .ml-array));
-      }
+module _ {mode : MethylationMode} {bases : List ℕ} {a b : Strand} {before now : List ℕ} {r : BothLengths} (m : MadeAs mode bases a b before now r) where
+  abbrev seq : List ℕ
+  seq = duplexSeq bases a b
+
+  size : length seq ≡ length bases
+  size = seq-length bases (a .annotation) (a .evidence .marks) (b .annotation) (b .evidence .marks)
 
   pub few-bytes : length bases ≤ 1024 → (r .aMm + r .bMm ≤ 10250) × (r .aMl + r .bMl ≤ 2048)
   few-bytes few =
-      let seq = duplexSeq bases a b in
       let short : length seq ≤ 1024 = omega (arith, size) in
-      (omega (arith, m .a-texts .mm-length, m .b-texts .mm-length, mm-most mode seq short a, mm-most mode seq short b), omega (arith, m .a-texts .ml-length, m .b-texts .ml-length, ml-most mode seq short a, ml-most mode seq short b))
+      (omega (arith, m .aMm, m .bMm, mm-most mode seq short a, mm-most mode seq short b), omega (arith, m .aMl, m .bMl, ml-most mode seq short a, ml-most mode seq short b))
 
   pub needed : neededFor (length bases) r ≡ textLengths (duplexTexts mode bases a b)
   unfolding duplexTexts
   needed =
-      let seq = duplexSeq bases a b in
       let order = secondFirst (a .annotation) (b .annotation) in
       rw
-      (m .a-texts .mm-length, m .b-texts .mm-length, m .a-texts .ml-length, m .b-texts .ml-length, grouped-length order (strandMm mode seq a) (strandMm mode seq b), grouped-length order (strandMl mode seq a) (strandMl mode seq b), size)
+      (m .aMm, m .bMm, m .aMl, m .bMl, grouped-length order (strandMm mode seq a) (strandMm mode seq b), grouped-length order (strandMl mode seq a) (strandMl mode seq b), size)
+
+  abbrev aMm : List ℕ
+  aMm = strandMm mode seq a
+
+  abbrev aMl : List ℕ
+  aMl = strandMl mode seq a
+
+  abbrev bMm : List ℕ
+  bMm = strandMm mode seq b
+
+  abbrev bMl : List ℕ
+  bMl = strandMl mode seq b
+
+  -- Each of them, in the buffer.
+  first-text : part 0 (r .aMm) now ≡ aMm
+  first-text = part-between [] aMm (aMl ++ ((bMm ++ bMl) ++ seq)) before _ (m .bytes) (simp append-assoc) refl (m .aMm)
+
+  first-array : part (r .aMm) (r .aMl) now ≡ aMl
+  first-array = part-between aMm aMl ((bMm ++ bMl) ++ seq) before _ (m .bytes) (simp append-assoc) (m .aMm) (m .aMl)
+
+  second-text : part (secondAt r) (r .bMm) now ≡ bMm
+  second-text = part-between (aMm ++ aMl) bMm (bMl ++ seq) before _ (m .bytes) (simp append-assoc) (omega (arith, length-append aMm aMl, m .aMm, m .aMl)) (m .bMm)
+
+  second-array : part (secondMlAt r) (r .bMl) now ≡ bMl
+  second-array =
+      part-between ((aMm ++ aMl) ++ bMm) bMl seq before _ (m .bytes) (simp append-assoc) (omega (arith, length-append (aMm ++ aMl) bMm, length-append aMm aMl, m .aMm, m .aMl, m .bMm)) (m .bMl)
+
+  sequence : part (seqAt r) (length bases) now ≡ seq
+  sequence =
+      part-between ((aMm ++ aMl) ++ (bMm ++ bMl)) seq [] before _ (m .bytes) (ap (λ (l : List ℕ). ((aMm ++ aMl) ++ (bMm ++ bMl)) ++ l) (sym (append-nil seq))) (omega (arith, length-append (aMm ++ aMl) (bMm ++ bMl), length-append aMm aMl, length-append bMm bMl, m .aMm, m .aMl, m .bMm, m .bMl)) (sym size)
 
   pub all-put :
       {order : Bool} {out left : TextArrays}
       → order ≡ secondFirst (a .annotation) (b .annotation)
+      → RoomTexts (neededFor (length bases) r) (textLengths out)
       → TextsPut order (length bases) r now out left
-      → PutsTexts (duplexTexts mode bases a b) out left
-  unfolding duplexTexts
-  all-put is t =
-      let seq = duplexSeq bases a b in
-      let a-mm = front-of (strandMm mode seq a) (before .aMm) (m .a-texts .mm-text) (m .a-texts .mm-length) in
-      let b-mm = front-of (strandMm mode seq b) (before .bMm) (m .b-texts .mm-text) (m .b-texts .mm-length) in
-      let a-ml = front-of (strandMl mode seq a) (before .aMl) (m .a-texts .ml-array) (m .a-texts .ml-length) in
-      let b-ml = front-of (strandMl mode seq b) (before .bMl) (m .b-texts .ml-array) (m .b-texts .ml-length) in
-      record {
-        seq = rw (front-of seq (before .seq) (m .seq) (sym size)) at (t .seq);
-        aMm = rw a-mm at (t .aMm);
-        bMm = rw b-mm at (t .bMm);
-        mm = rw (a-mm, b-mm, is) at (t .mm);
-        ml = rw (a-ml, b-ml, is) at (t .ml);
-      }
+      → LeavesTexts 0 (duplexTexts mode bases a b) out left
+  unfolding duplexTexts after unless
+  all-put {order} {out} is room t = record {
+    seq = fitting seq (out .seq) (omega (arith, size, room .seq)) (rw sequence at (t .seq));
+    aMm = fitting aMm (out .aMm) (omega (arith, m .aMm, room .aMm)) (rw first-text at (t .aMm));
+    bMm = fitting bMm (out .bMm) (omega (arith, m .bMm, room .bMm)) (rw second-text at (t .bMm));
+    mm = rw (first-text, second-text, is) at (t .mm);
+    ml = rw (first-array, second-array, is) at (t .ml);
+  }

@@ -11,12 +11,12 @@ use borrow.Author.Tests.{le-ltb}
 use lib.ListN.{length}
 use Rattle.methylation.specs.declared.MethylationMode.{MethylationMode}
 use Rattle.duplex_texts.specs.Texts.{Strand, TextArrays, duplexSeq, strandMm, strandMl, secondFirst, duplexTexts}
-use Rattle.duplex_texts.specs.Outputs.{textLengths, textsTooShort, AmpleTexts}
+use Rattle.duplex_texts.specs.Outputs.{textLengths, RoomTexts, textsTooShort, mostTexts}
 use Rattle.duplex_texts.proofs.Texts.{seq-length, mm-most, ml-most, grouped-length}
 
 module _ (mode : MethylationMode) (bases : List ℕ) (a b : Strand) (few : length bases ≤ 1024) where
   size : length (duplexSeq bases a b) ≡ length bases
-  size = seq-length bases (a .annotation) (a .marks) (b .annotation) (b .marks)
+  size = seq-length bases (a .annotation) (a .evidence .marks) (b .annotation) (b .evidence .marks)
 
   short : length (duplexSeq bases a b) ≤ 1024
   short = omega (arith, size)
@@ -47,7 +47,7 @@ module _ (mode : MethylationMode) (bases : List ℕ) (a b : Strand) (few : lengt
       omega
       (arith, size, grouped-length (secondFirst (a .annotation) (b .annotation)) (strandMl mode seq a) (strandMl mode seq b), ml-most mode seq short a, ml-most mode seq short b)
 
-  pub texts-fit : (out : TextArrays) → AmpleTexts (length bases) out → textsTooShort (textLengths (duplexTexts mode bases a b)) (textLengths out) ≡ false
+  pub texts-fit : (out : TextArrays) → RoomTexts (mostTexts (length bases)) (textLengths out) → textsTooShort (textLengths (duplexTexts mode bases a b)) (textLengths out) ≡ false
   unfolding textsTooShort
   texts-fit out ample =
       let t = duplexTexts mode bases a b in

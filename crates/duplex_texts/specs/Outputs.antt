@@ -10,7 +10,7 @@ use Rattle.refusals.specs.Refusal.{Fault, _if_, tooLong, ragged, refusal}
 use Rattle.methylation.specs.Methylation.{isAnnotated}
 use Rattle.methylation.specs.declared.Annotation.{Annotation}
 use Rattle.methylation.specs.declared.MethylationMode.{MethylationMode}
-use Rattle.methylation.specs.Arrays.{three}
+use Rattle.methylation.specs.Arrays.{evidenceLengths, three}
 use Rattle.methylation.specs.declared.EvidenceLengths.{EvidenceLengths}
 use Rattle.duplex_texts.specs.Texts.{Strand, TextArrays, duplexTexts}
 use Rattle.duplex_texts.specs.declared.DuplexTexts.{DuplexTexts}
@@ -19,9 +19,6 @@ use Rattle.duplex_texts.specs.declared.TextLengths.{TextLengths}
 
 abbrev pub textLengths : TextArrays → TextLengths
 textLengths t = record { seq = length (t .seq); aMm = length (t .aMm); bMm = length (t .bMm); mm = length (t .mm); ml = length (t .ml) }
-
-abbrev pub evidenceLengths : Strand → EvidenceLengths
-evidenceLengths s = record { marks = length (s .marks); unconverted = length (s .unconverted); converted = length (s .converted) }
 
 -- Row 7's condition for a strand's evidence, and row 8's beside so many bases. It counts where there is an annotation.
 abbrev pub long : Annotation → EvidenceLengths → Bool
@@ -38,7 +35,15 @@ givenFaults bases a aLengths b bLengths =
     ∷ []
 
 abbrev pub givenOf : List ℕ → Strand → Strand → List Fault
-givenOf bases a b = givenFaults (length bases) (a .annotation) (evidenceLengths a) (b .annotation) (evidenceLengths b)
+givenOf bases a b = givenFaults (length bases) (a .annotation) (evidenceLengths (a .evidence)) (b .annotation) (evidenceLengths (b .evidence))
+
+-- Each output has room for what goes there.
+pub record RoomTexts (needed out : TextLengths) : Type 0 where
+  pub seq : needed .seq ≤ out .seq
+  pub aMm : needed .aMm ≤ out .aMm
+  pub bMm : needed .bMm ≤ out .bMm
+  pub mm : needed .mm ≤ out .mm
+  pub ml : needed .ml ≤ out .ml
 
 -- Some output is shorter than what goes there.
 unfoldable pub textsTooShort : TextLengths → TextLengths → Bool
@@ -75,10 +80,6 @@ pub record DuplexTextsAs (mode : MethylationMode) (bases : List ℕ) (a b : Stra
   pub answered : r ≡ answer Refused (textsRefused mode bases a b before) (written (textLengths (duplexTexts mode bases a b)))
   pub outputs : LeavesTexts (textsRefused mode bases a b before) (duplexTexts mode bases a b) before now
 
--- Outputs that are never too short for a sequence of n bases.
-pub record AmpleTexts (n : ℕ) (out : TextArrays) : Type 0 where
-  pub seq : n ≤ length (out .seq)
-  pub aMm : 5 + 5 * n ≤ length (out .aMm)
-  pub bMm : 5 + 5 * n ≤ length (out .bMm)
-  pub mm : 10 + 10 * n ≤ length (out .mm)
-  pub ml : 2 * n ≤ length (out .ml)
+-- How many places each output needs at most for a sequence of n bases.
+abbrev pub mostTexts : ℕ → TextLengths
+mostTexts n = record { seq = n; aMm = 5 + 5 * n; bMm = 5 + 5 * n; mm = 10 + 10 * n; ml = 2 * n }

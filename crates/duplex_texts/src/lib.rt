@@ -6,12 +6,14 @@ ghost use mathlib.Core.List.{_++_};
 ghost use Prim.Native.Nat.{_+_, _≤_};
 ghost use lib.ListN.{length, take};
 ghost use Rattle.lists.specs.Output.{put};
+ghost use Rattle.lists.specs.Part.{part};
 ghost use Rattle.refusals.specs.Refusal.{refusal};
 ghost use Rattle.methylation.specs.Methylation.{isAnnotated};
-ghost use Rattle.duplex_texts.specs.Texts.{strand, textArrays, restoredSeq, isCToT, isGToA, secondFirst, grouped};
+ghost use Rattle.duplex_texts.specs.Texts.{strand, textArrays, restoredSeq, secondFirst, grouped};
 ghost use Rattle.duplex_texts.specs.Outputs.{long, uneven, givenFaults, roomFaults, DuplexTextsAs};
-ghost use Rattle.duplex_texts.specs.Parts.{AsLong, lengthsOf, TextsAs, buffers, Roomy, MadeAs, Buffered, FitTexts, TextsPut, neededFor};
+ghost use Rattle.duplex_texts.specs.Parts.{AsLong, lengthsOf, TextsAs, MadeAs, TextsPut, neededFor};
 use lists::copy_u8;
+use lists::part_u8;
 use methylation::Annotation;
 use methylation::ConversionPattern;
 use methylation::EvidenceLengths;
@@ -133,7 +135,15 @@ fn lengths_of(tags: MmMl) -> StrandLengths
     }
 }
 
-// Writes a strand's MM text and ML bytes against the restored sequence, to buffers that have room for any.
+// Writes the first so many bytes to the places behind one.
+fn write_behind(at: usize, count: usize, from: &[u8], out: &mut [u8])
+    requires { ⌜ (count ≤ length (now from)) × (at + count ≤ length (now out)) ⌝ }
+    ensures { λ _. ⌜ now (out .exit) ≡ put (take at (now (out .entry)) ++ take count (now (from .entry))) (now (out .entry)) ⌝ }
+{
+    copy_u8(&from[0..count], &mut out[at..]);
+}
+
+// Writes a strand's MM text against the restored sequence, and its ML bytes behind it, to a buffer that has room for any.
 fn strand_texts(
     seq: &[u8],
     annotation: Annotation,
@@ -141,20 +151,31 @@ fn strand_texts(
     unconverted: &[u32],
     converted: &[u32],
     mode: MethylationMode,
-    mm: &mut [u8],
-    ml: &mut [u8],
+    out: &mut [u8],
 ) -> StrandLengths
     requires { ⌜ AsLong (length (now seq)) (strand annotation (now marks) (now unconverted) (now converted)) ⌝ }
-    requires { ⌜ (5125 ≤ length (now mm)) × (1024 ≤ length (now ml)) ⌝ }
-    ensures { λ r. ⌜ TextsAs mode (now (seq .entry)) (strand annotation (now (marks .entry)) (now (unconverted .entry)) (now (converted .entry))) (now (mm .entry)) (now (ml .entry)) (now (mm .exit)) (now (ml .exit)) r ⌝ }
+    requires { ⌜ 6149 ≤ length (now out) ⌝ }
+    ensures { λ r. ⌜ TextsAs mode (now (seq .entry)) (strand annotation (now (marks .entry)) (now (unconverted .entry)) (now (converted .entry))) (now (out .entry)) (now (out .exit)) r ⌝ }
 {
     let Annotation::Of(pattern) = annotation else {
         return StrandLengths { mm: 0, ml: 0 };
     };
-    lengths_of(build_mm_ml_tags(seq, pattern, marks, unconverted, converted, mode, mm, ml))
+    let mut ml = [0; 1024];
+    let n = lengths_of(build_mm_ml_tags(
+        seq,
+        pattern,
+        marks,
+        unconverted,
+        converted,
+        mode,
+        out,
+        &mut ml,
+    ));
+    write_behind(n.mm, n.ml, &ml, out);
+    n
 }
 
-// Writes the restored sequence and both strands' texts to buffers that have room for any.
+// Writes both strands' texts, and the restored sequence behind them, to a buffer that has room for any.
 fn make_texts(
     bases: &[u8],
     a_annotation: Annotation,
@@ -166,24 +187,26 @@ fn make_texts(
     b_unconverted: &[u32],
     b_converted: &[u32],
     mode: MethylationMode,
-    seq: &mut [u8],
-    a_mm: &mut [u8],
-    a_ml: &mut [u8],
-    b_mm: &mut [u8],
-    b_ml: &mut [u8],
+    out: &mut [u8],
 ) -> BothLengths
     requires { ⌜ AsLong (length (now bases)) (strand «a_annotation» (now «a_marks») (now «a_unconverted») (now «a_converted»)) ⌝ }
     requires { ⌜ AsLong (length (now bases)) (strand «b_annotation» (now «b_marks») (now «b_unconverted») (now «b_converted»)) ⌝ }
-    requires { ⌜ Roomy (buffers (now seq) (now «a_mm») (now «a_ml») (now «b_mm») (now «b_ml»)) ⌝ }
+    requires { ⌜ 13322 ≤ length (now out) ⌝ }
     ensures { λ r. ⌜ MadeAs mode (now (bases .entry))
         (strand «a_annotation» (now («a_marks» .entry)) (now («a_unconverted» .entry)) (now («a_converted» .entry)))
         (strand «b_annotation» (now («b_marks» .entry)) (now («b_unconverted» .entry)) (now («b_converted» .entry)))
-        (buffers (now (seq .entry)) (now («a_mm» .entry)) (now («a_ml» .entry)) (now («b_mm» .entry)) (now («b_ml» .entry)))
-        (buffers (now (seq .exit)) (now («a_mm» .exit)) (now («a_ml» .exit)) (now («b_mm» .exit)) (now («b_ml» .exit)))
-        r ⌝ }
+        (now (out .entry)) (now (out .exit)) r ⌝ }
 {
     let n = bases.len();
-    restore_both(bases, a_annotation, a_marks, b_annotation, b_marks, seq);
+    let mut seq = [0; 1024];
+    restore_both(
+        bases,
+        a_annotation,
+        a_marks,
+        b_annotation,
+        b_marks,
+        &mut seq,
+    );
     let restored = &seq[0..n];
     let a = strand_texts(
         restored,
@@ -192,9 +215,9 @@ fn make_texts(
         a_unconverted,
         a_converted,
         mode,
-        a_mm,
-        a_ml,
+        out,
     );
+    let second = a.mm + a.ml;
     let b = strand_texts(
         restored,
         b_annotation,
@@ -202,9 +225,10 @@ fn make_texts(
         b_unconverted,
         b_converted,
         mode,
-        b_mm,
-        b_ml,
+        &mut out[second..],
     );
+    let end = second + (b.mm + b.ml);
+    write_behind(end, n, restored, out);
     BothLengths {
         aMm: a.mm,
         aMl: a.ml,
@@ -240,39 +264,26 @@ fn room_refusal(needed: TextLengths, out: TextLengths) -> u8
 fn is_second_first(a: Annotation, b: Annotation) -> bool
     ensures { λ r. ⌜ r ≡ secondFirst a b ⌝ }
 {
-    is_g_to_a(a) & is_c_to_t(b)
-}
-
-fn is_c_to_t(annotation: Annotation) -> bool
-    ensures { λ r. ⌜ r ≡ isCToT annotation ⌝ }
-{
-    let Annotation::Of(pattern) = annotation else {
+    let Annotation::Of(first) = a else {
         return false;
     };
-    match pattern {
-        ConversionPattern::CToT => true,
-        ConversionPattern::GToA => false,
-    }
-}
-
-fn is_g_to_a(annotation: Annotation) -> bool
-    ensures { λ r. ⌜ r ≡ isGToA annotation ⌝ }
-{
-    let Annotation::Of(pattern) = annotation else {
+    let Annotation::Of(second) = b else {
         return false;
     };
-    match pattern {
+    match first {
         ConversionPattern::CToT => false,
-        ConversionPattern::GToA => true,
+        ConversionPattern::GToA => match second {
+            ConversionPattern::CToT => true,
+            ConversionPattern::GToA => false,
+        },
     }
 }
 
-// Writes the first n bytes.
-fn write_front(n: usize, from: &[u8], out: &mut [u8])
-    requires { ⌜ (n ≤ length (now from)) × (n ≤ length (now out)) ⌝ }
-    ensures { λ _. ⌜ now (out .exit) ≡ put (take n (now (from .entry))) (now (out .entry)) ⌝ }
+// Writes so many bytes from a place on.
+fn write_part(at: usize, count: usize, from: &[u8], out: &mut [u8])
+    ensures { λ _. ⌜ now (out .exit) ≡ put (take (length (now (out .entry))) (part at count (now (from .entry)))) (now (out .entry)) ⌝ }
 {
-    copy_u8(&from[0..n], out);
+    copy_u8(part_u8(from, at, count), out);
 }
 
 // Writes one after the other.
@@ -285,21 +296,21 @@ fn write_joined(first: &[u8], second: &[u8], out: &mut [u8])
     copy_u8(second, &mut out[at..]);
 }
 
-// Writes so many bytes of each strand, in the order of their groups.
+// Writes so many bytes of each strand, from its place on, in the order of their groups.
 fn write_groups(
     second_first: bool,
+    a_at: usize,
     a_count: usize,
-    a: &[u8],
+    b_at: usize,
     b_count: usize,
-    b: &[u8],
+    from: &[u8],
     out: &mut [u8],
 )
-    requires { ⌜ («a_count» ≤ length (now a)) × («b_count» ≤ length (now b)) ⌝ }
     requires { ⌜ «a_count» + «b_count» ≤ length (now out) ⌝ }
-    ensures { λ _. ⌜ now (out .exit) ≡ put (grouped «second_first» (take «a_count» (now (a .entry))) (take «b_count» (now (b .entry)))) (now (out .entry)) ⌝ }
+    ensures { λ _. ⌜ now (out .exit) ≡ put (grouped «second_first» (part «a_at» «a_count» (now (from .entry))) (part «b_at» «b_count» (now (from .entry)))) (now (out .entry)) ⌝ }
 {
-    let of_a = &a[0..a_count];
-    let of_b = &b[0..b_count];
+    let of_a = part_u8(from, a_at, a_count);
+    let of_b = part_u8(from, b_at, b_count);
     if second_first {
         write_joined(of_b, of_a, out);
     } else {
@@ -307,34 +318,39 @@ fn write_groups(
     }
 }
 
-// Writes the sequence, each strand's MM text, and the combined MM and ML, from buffers.
+// Writes the sequence, each strand's MM text, and the combined MM and ML, from the buffer.
 fn write_texts(
     second_first: bool,
     positions: usize,
     texts: BothLengths,
-    seq: &[u8],
-    a_mm: &[u8],
-    a_ml: &[u8],
-    b_mm: &[u8],
-    b_ml: &[u8],
+    from: &[u8],
     seq_out: &mut [u8],
     a_mm_out: &mut [u8],
     b_mm_out: &mut [u8],
     mm_out: &mut [u8],
     ml_out: &mut [u8],
 )
-    requires { ⌜ Buffered positions texts (buffers (now seq) (now «a_mm») (now «a_ml») (now «b_mm») (now «b_ml»)) ⌝ }
-    requires { ⌜ FitTexts positions texts (textArrays (now «seq_out») (now «a_mm_out») (now «b_mm_out») (now «mm_out») (now «ml_out»)) ⌝ }
-    ensures { λ _. ⌜ TextsPut «second_first» positions texts
-        (buffers (now (seq .entry)) (now («a_mm» .entry)) (now («a_ml» .entry)) (now («b_mm» .entry)) (now («b_ml» .entry)))
+    requires { ⌜ (texts .aMm + texts .bMm ≤ 10250) × (texts .aMl + texts .bMl ≤ 2048) ⌝ }
+    requires { ⌜ (texts .aMm + texts .bMm ≤ length (now «mm_out»)) × (texts .aMl + texts .bMl ≤ length (now «ml_out»)) ⌝ }
+    ensures { λ _. ⌜ TextsPut «second_first» positions texts (now (from .entry))
         (textArrays (now («seq_out» .entry)) (now («a_mm_out» .entry)) (now («b_mm_out» .entry)) (now («mm_out» .entry)) (now («ml_out» .entry)))
         (textArrays (now («seq_out» .exit)) (now («a_mm_out» .exit)) (now («b_mm_out» .exit)) (now («mm_out» .exit)) (now («ml_out» .exit))) ⌝ }
 {
-    write_front(positions, seq, seq_out);
-    write_front(texts.aMm, a_mm, a_mm_out);
-    write_front(texts.bMm, b_mm, b_mm_out);
-    write_groups(second_first, texts.aMm, a_mm, texts.bMm, b_mm, mm_out);
-    write_groups(second_first, texts.aMl, a_ml, texts.bMl, b_ml, ml_out);
+    let second = texts.aMm + texts.aMl;
+    let second_ml = second + texts.bMm;
+    write_part(second_ml + texts.bMl, positions, from, seq_out);
+    write_part(0, texts.aMm, from, a_mm_out);
+    write_part(second, texts.bMm, from, b_mm_out);
+    write_groups(second_first, 0, texts.aMm, second, texts.bMm, from, mm_out);
+    write_groups(
+        second_first,
+        texts.aMm,
+        texts.aMl,
+        second_ml,
+        texts.bMl,
+        from,
+        ml_out,
+    );
 }
 
 // A duplex record's sequence, MM and ML, from its consensus bases and the annotations of its strands, in strand order. Each
@@ -386,11 +402,7 @@ pub fn duplex_texts(
     if number != 0 {
         return DuplexTexts::Refused(number);
     }
-    let mut seq = [0; 1024];
-    let mut a_mm = [0; 5125];
-    let mut a_ml = [0; 1024];
-    let mut b_mm = [0; 5125];
-    let mut b_ml = [0; 1024];
+    let mut made = [0; 13322];
     let texts = make_texts(
         bases,
         a_annotation,
@@ -402,11 +414,7 @@ pub fn duplex_texts(
         b_unconverted,
         b_converted,
         mode,
-        &mut seq,
-        &mut a_mm,
-        &mut a_ml,
-        &mut b_mm,
-        &mut b_ml,
+        &mut made,
     );
     let needed = needed_for(positions, texts);
     let out = TextLengths {
@@ -424,11 +432,7 @@ pub fn duplex_texts(
         is_second_first(a_annotation, b_annotation),
         positions,
         texts,
-        &seq,
-        &a_mm,
-        &a_ml,
-        &b_mm,
-        &b_ml,
+        &made,
         seq_out,
         a_mm_out,
         b_mm_out,

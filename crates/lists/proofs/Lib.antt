@@ -7,4 +7,5 @@ pub mod Part
 pub mod Place
 pub mod Table
 pub mod Told
+pub mod Between
 pub mod Written

@@ -15,7 +15,6 @@ use Rattle.lists.proofs.Output.{answer-map}
 use Rattle.refusals.specs.Refusal.{refusal}
 use Rattle.methylation.specs.declared.MethylationMode.{MethylationMode}
 use Rattle.mm_ml.specs.Tags.{Annotated, calls, mmText, mlArray, faultsOf, roomFaults, tagsRefused, tagsIfCalled, TaggedAs, tagRefused, mmOf, tagIfCalled, MmTaggedAs}
-use Rattle.mm_ml.specs.declared.Mm.the-variants.{Refused as Refused-mm}
 use Rattle.mm_ml.specs.declared.MmMl.{MmMl}
 use Rattle.mm_ml.specs.declared.MmMl.the-variants.{Refused}
 use Rattle.mm_ml.proofs.Refused.{evident, both-tests}

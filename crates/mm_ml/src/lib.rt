@@ -8,7 +8,7 @@ ghost use Rattle.lists.specs.Output.{put};
 ghost use Rattle.refusals.specs.Refusal.{refusal};
 ghost use Rattle.decimal.specs.Decimal.{decimal};
 ghost use Rattle.mm_ml.specs.Text.{prefixOf};
-ghost use Rattle.mm_ml.specs.Tags.{annotated, calledAt, calls, allCalls, allListed, allText, allBytes, mmText, strandFaults, roomFaults, Evident, Counted, TaggedAs, mmOf, MmTaggedAs};
+ghost use Rattle.mm_ml.specs.Tags.{annotated, calledAt, calls, allCalls, allText, allBytes, mmText, strandFaults, roomFaults, Evident, Counted, TaggedAs, mmOf, MmTaggedAs};
 use decimal::write_decimal;
 use lists::copy_u8;
 use methylation::ConversionPattern;
@@ -209,41 +209,7 @@ fn write_skip(mm: &mut [u8], at: usize, skip: usize) -> usize
     next + write_decimal(skip as u64, &mut mm[next..])
 }
 
-// The listed skip counts behind the prefix, and the ML bytes; answers the place after the counts.
-fn write_calls(
-    mode: MethylationMode,
-    pattern: ConversionPattern,
-    bases: &[u8],
-    marks: &[u8],
-    unconverted: &[u32],
-    converted: &[u32],
-    mm: &mut [u8],
-    ml: &mut [u8],
-) -> usize
-    requires { ⌜ Evident (annotated (now bases) pattern (now marks) (now unconverted) (now converted)) ⌝ }
-    requires { ⌜ 4 + length (allListed (annotated (now bases) pattern (now marks) (now unconverted) (now converted))) ≤ length (now mm) ⌝ }
-    requires { ⌜ length (allCalls (annotated (now bases) pattern (now marks) (now unconverted) (now converted))) ≤ length (now ml) ⌝ }
-    ensures { λ r. ⌜ r ≡ 4 + length (allListed (annotated (now (bases .entry)) pattern (now (marks .entry)) (now (unconverted .entry)) (now (converted .entry)))) ⌝ }
-    ensures { λ _. ⌜ now (mm .exit) ≡ put (take 4 (now (mm .entry)) ++ allListed (annotated (now (bases .entry)) pattern (now (marks .entry)) (now (unconverted .entry)) (now (converted .entry)))) (now (mm .entry)) ⌝ }
-    ensures { λ _. ⌜ now (ml .exit) ≡ put (allBytes mode (annotated (now (bases .entry)) pattern (now (marks .entry)) (now (unconverted .entry)) (now (converted .entry)))) (now (ml .entry)) ⌝ }
-{
-    let mut place = 4;
-    let mut count = 0;
-    let mut skip = 0;
-    let mut i = 0;
-    while i < bases.len() {
-        let called = called_at(pattern, bases, marks, unconverted, converted, i);
-        if called {
-            place = write_skip(mm, place, skip);
-            ml[count] = ml_of(mode, unconverted[i], converted[i]);
-            count += 1;
-        }
-        skip = skip_after(skip, called, is_tracked(pattern, bases[i]));
-        i += 1;
-    }
-    place
-}
-
+// The group's text: the prefix, the listed skip counts and the semicolon; and the ML bytes.
 fn write_mm_ml(
     mode: MethylationMode,
     pattern: ConversionPattern,
@@ -262,8 +228,21 @@ fn write_mm_ml(
 {
     let prefix = mm_prefix(pattern);
     copy_u8(&prefix, mm);
-    let end = write_calls(mode, pattern, bases, marks, unconverted, converted, mm, ml);
-    mm[end] = b';';
+    let mut place = 4;
+    let mut count = 0;
+    let mut skip = 0;
+    let mut i = 0;
+    while i < bases.len() {
+        let called = called_at(pattern, bases, marks, unconverted, converted, i);
+        if called {
+            place = write_skip(mm, place, skip);
+            ml[count] = ml_of(mode, unconverted[i], converted[i]);
+            count += 1;
+        }
+        skip = skip_after(skip, called, is_tracked(pattern, bases[i]));
+        i += 1;
+    }
+    mm[place] = b';';
 }
 
 // The number that refuses outputs of these lengths for what goes to them, 0 for none.

@@ -13,10 +13,11 @@ use Rattle.duplex_texts.specs.declared.DuplexTexts.the-variants.{Refused as Ref
 use Rattle.duplex_texts.proofs.Leaves.{leaves-refused as texts-refused}
 use Rattle.duplex_texts.proofs.Refused.{as-long}
 use Rattle.duplex_tags.specs.Tags.{CountArrays, countArrays}
-use Rattle.duplex_tags.specs.Outputs.{countLengths, duplexRefused, tagged}
+use Rattle.duplex_tags.specs.Outputs.{kindLengths, RoomKind, duplexRefused, tagged}
 use Rattle.duplex_tags.specs.Parts.{neededCounts, tagsOf}
 use Rattle.duplex_tags.specs.declared.DuplexMethylationTags.the-variants.{Refused}
-use Rattle.duplex_tags.proofs.Refused.{refused-first, Passed, passed-first, CountRoom, enough-room, number-is}
+use Rattle.duplex_tags.specs.declared.KindLengths.{KindLengths}
+use Rattle.duplex_tags.proofs.Refused.{refused-first, Passed, passed-first, enough-room, number-is}
 use Rattle.duplex_tags.proofs.Leaves.{leaves-refused, leaves-passed}
 use Rattle.duplex_tags.proofs.duplex_methylation_tags.Statement.{statement}
 use Rattle.duplex_tags.proofs.duplex_methylation_tags.Tie as tie
@@ -71,13 +72,16 @@ evidence c =
     let s = start (c .before) in
     as-long (length (now (s .args .bases))) (first s) (second s) refl (passed c .given-passed)
 
+abbrev needed : tie.Start → KindLengths
+needed s = neededCounts (length (now (s .args .bases))) (s .args .a-annotation) (s .args .b-annotation)
+
 room :
     (c : tie.Else1)
     → let s = start (c .before) in
-    CountRoom (neededCounts (length (now (s .args .bases))) (s .args .a-annotation) (s .args .b-annotation)) (countLengths (counts s))
+    RoomKind (needed s) (kindLengths (counts s .unconverted)) × RoomKind (needed s) (kindLengths (counts s .converted))
 room c =
     let s = start (c .before) in
-    enough-room (neededCounts (length (now (s .args .bases))) (s .args .a-annotation) (s .args .b-annotation)) (countLengths (counts s)) (passed c .room-passed)
+    enough-room (needed s) (kindLengths (counts s .unconverted)) (kindLengths (counts s .converted)) (passed c .room-passed)
 
 -- Its own test, seen from the texts' answer, and from their number.
 abbrev tested : tie.After-duplex-texts → tie.Else1
@@ -119,8 +123,8 @@ tested-2 c = tested (telling (c .before .before .before .before))
 write-counts-requires : tie.Need-write-counts-requires
 write-counts-requires c κs =
     let both = evidence (tested-2 c) in
-    let r = room (tested-2 c) in
-    (record { few = both .0 .few; whole = both .0 .unconverted; room = r .aUnconverted }, (record { few = both .1 .few; whole = both .1 .unconverted; room = r .bUnconverted }, r .unconverted))
+    let r = room (tested-2 c) .0 in
+    (record { few = both .0 .few; whole = both .0 .unconverted; room = r .a }, (record { few = both .1 .few; whole = both .1 .unconverted; room = r .b }, r .both))
 
 abbrev tested-3 : tie.After-write-counts-arg6 → tie.Else1
 tested-3 c = tested-2 (c .before .before .before .before .before .before .before .before .before .before)
@@ -128,8 +132,8 @@ tested-3 c = tested-2 (c .before .before .before .before .before .before .before
 write-counts-requires-2 : tie.Need-write-counts-requires-2
 write-counts-requires-2 c κs =
     let both = evidence (tested-3 c) in
-    let r = room (tested-3 c) in
-    (record { few = both .0 .few; whole = both .0 .converted; room = r .aConverted }, (record { few = both .1 .few; whole = both .1 .converted; room = r .bConverted }, r .converted))
+    let r = room (tested-3 c) .1 in
+    (record { few = both .0 .few; whole = both .0 .converted; room = r .a }, (record { few = both .1 .few; whole = both .1 .converted; room = r .b }, r .both))
 
 -- The texts' answer, as this call's.
 answers :
@@ -150,10 +154,11 @@ returns-3 c =
     let s = start (tested t .before) in
     let unconverted = c .before .before .before .before .before .before .before .before .before .before .before .before .before .before .before .before .before .write-counts .ensures in
     let converted = c .before .before .before .before .before .before .before .write-counts2 .ensures in
+    let zero = c .before .before .before .before .before .before .before .before .before .before .before .before .before .before .before .before .before .before .before .before .before .if2 .left in
     record {
       answered = c .tags-of .ensures ∙ answers t;
       the-texts = held t;
-      the-counts = leaves-passed (length (now (s .args .bases))) (first s) (second s) (numbered at-number) (c .before .before .before .before .before .before .before .before .before .before .before .before .before .before .before .before .before .before .before .before .before .if2 .left) (unconverted .0) (converted .0) (unconverted .1 .0) (converted .1 .0) (unconverted .1 .1) (converted .1 .1);
+      the-counts = leaves-passed (numbered at-number) zero (record { unconverted = unconverted; converted = converted });
     }
 
 same-length : tie.Need-same-length

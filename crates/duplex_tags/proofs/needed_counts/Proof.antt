@@ -3,7 +3,7 @@ use Rattle.duplex_tags.proofs.needed_counts.Statement.{statement}
 use Rattle.duplex_tags.proofs.needed_counts.Tie as tie
 
 returns : tie.Need-returns
-returns c = cc
+returns c = rw (c .before .places .ensures, c .places2 .ensures)
 
 pub needed-counts-spec : {M : Type 1} → statement M
 needed-counts-spec =

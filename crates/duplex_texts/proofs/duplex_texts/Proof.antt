@@ -6,12 +6,12 @@ use denote.Ref.{now}
 use lib.ListN.{length}
 use Rattle.lists.proofs.Output.{answer-refused, answer-passed}
 use Rattle.duplex_texts.specs.Texts.{Strand, strand, TextArrays, textArrays, duplexTexts}
-use Rattle.duplex_texts.specs.Outputs.{textLengths, textsRefused, written}
+use Rattle.duplex_texts.specs.Outputs.{textLengths, RoomTexts, textsRefused, written}
 use Rattle.duplex_texts.specs.Parts.{AsLong, neededFor}
 use Rattle.duplex_texts.specs.declared.DuplexTexts.the-variants.{Refused}
-use Rattle.duplex_texts.proofs.Refused.{as-long, refused-given, refused-room, Room, enough-room}
+use Rattle.duplex_texts.proofs.Refused.{as-long, refused-given, refused-room, enough-room}
 use Rattle.duplex_texts.proofs.Leaves.{leaves-refused, leaves-passed}
-use Rattle.duplex_texts.proofs.Made.{buffered, few-bytes, needed, all-put}
+use Rattle.duplex_texts.proofs.Made.{few-bytes, needed, all-put}
 use Rattle.duplex_texts.proofs.duplex_texts.Statement.{statement}
 use Rattle.duplex_texts.proofs.duplex_texts.Tie as tie
 
@@ -48,29 +48,25 @@ evidence c =
 
 make-texts-requires : tie.Need-make-texts-requires
 make-texts-requires c κs =
-    let both = evidence (c .before .before .before .before .before) in
-    (both .0, (both .1, record { seq = omega arith; aMm = omega arith; aMl = omega arith; bMm = omega arith; bMl = omega arith }))
+    let both = evidence (c .before) in
+    (both .0, (both .1, omega arith))
 
 -- The first test, seen from where the texts are made.
 abbrev tested : tie.After-make-texts → tie.Else1
-tested c = c .before .before .before .before .before .before
+tested c = c .before .before
 
 needed-for-requires : tie.Need-needed-for-requires
-needed-for-requires c κs =
-    let made = c .before .before .before .before .before in
-    few-bytes (made .make-texts .ensures) (evidence (tested made) .0 .few)
+needed-for-requires c κs = few-bytes (c .before .make-texts .ensures) (evidence (tested (c .before)) .0 .few)
 
 -- Where the texts are made, seen from the second test.
 abbrev making : tie.After-room-refusal → tie.After-make-texts
-making c = c .before .before .before .before .before .before .before
+making c = c .before .before .before
 
 lengths :
     (c : tie.After-needed-for)
-    → let made = c .before .before .before .before .before .before in
-    let s = start (tested made .before) in
+    → let s = start (tested (c .before .before) .before) in
     c .needed-for .result ≡ textLengths (duplexTexts (s .args .mode) (now (s .args .bases)) (first s) (second s))
-lengths c =
-    c .needed-for .ensures ∙ needed (c .before .before .before .before .before .before .make-texts .ensures)
+lengths c = c .needed-for .ensures ∙ needed (c .before .before .make-texts .ensures)
 
 by-room :
     (c : tie.After-room-refusal)
@@ -92,7 +88,7 @@ room :
     (c : tie.Else2)
     → let made = making (c .before) in
     let s = start (tested made .before) in
-    Room (neededFor (length (now (s .args .bases))) (made .make-texts .result)) (textLengths (outputs s))
+    RoomTexts (neededFor (length (now (s .args .bases))) (made .make-texts .result)) (textLengths (outputs s))
 room c =
     let made = making (c .before) in
     let s = start (tested made .before) in
@@ -100,12 +96,13 @@ room c =
 
 -- The second test, seen from where the texts are written.
 abbrev passed : tie.After-write-texts-arg5 → tie.Else2
-passed c = c .before .before .before .before .before .before .before .before .before .before .before
+passed c = c .before .before .before .before .before .before .before
 
 write-texts-requires : tie.Need-write-texts-requires
 write-texts-requires c κs =
+    let made = making (passed c .before) in
     let r = room (passed c) in
-    (buffered (making (passed c .before) .make-texts .ensures), record { seq = r .seq; aMm = r .aMm; bMm = r .bMm; mm = r .mm; ml = r .ml })
+    (few-bytes (made .make-texts .ensures) (evidence (tested made) .0 .few), (r .mm, r .ml))
 
 returns-3 : tie.Need-returns-3
 returns-3 c =
@@ -115,38 +112,8 @@ returns-3 c =
     let zero = at-room .if2 .left in
     record {
       answered = ap written (lengths (at-room .before .before)) ∙ answer-passed Refused _ number zero;
-      outputs = leaves-passed number zero (all-put (making (at-room .before) .make-texts .ensures) (c .before .before .before .before .before .before .before .before .before .before .before .before .before .before .before .before .before .before .before .before .before .is-second-first .ensures) (texts .write-texts .ensures));
+      outputs = leaves-passed number zero (all-put (making (at-room .before) .make-texts .ensures) (texts .before .before .before .before .before .before .before .is-second-first .ensures) (room at-room) (texts .write-texts .ensures));
     }
-
-slice-aggregate-write-texts : tie.Need-slice-aggregate-write-texts
-slice-aggregate-write-texts c = sym (c .before .before .before .before .before .before .before .before .before .seq2 .given)
-
-slice-aggregate-write-texts-2 : tie.Need-slice-aggregate-write-texts-2
-slice-aggregate-write-texts-2 c = sym (c .before .before .before .before .before .before .before .before .before .a-mm2 .given)
-
-slice-aggregate-write-texts-3 : tie.Need-slice-aggregate-write-texts-3
-slice-aggregate-write-texts-3 c = sym (c .before .before .before .before .before .before .before .before .before .a-ml2 .given)
-
-slice-aggregate-write-texts-4 : tie.Need-slice-aggregate-write-texts-4
-slice-aggregate-write-texts-4 c = sym (c .before .before .before .before .before .before .before .before .before .b-mm2 .given)
-
-slice-aggregate-write-texts-5 : tie.Need-slice-aggregate-write-texts-5
-slice-aggregate-write-texts-5 c = sym (c .before .before .before .before .before .before .before .before .before .b-ml2 .given)
-
-same-length : tie.Need-same-length
-same-length c = c .before .before .before .before .before .before .before .before .before .seq-out .given
-
-same-length-2 : tie.Need-same-length-2
-same-length-2 c = c .before .before .before .before .before .before .before .a-mm-out .given
-
-same-length-3 : tie.Need-same-length-3
-same-length-3 c = c .before .before .before .before .before .b-mm-out .given
-
-same-length-4 : tie.Need-same-length-4
-same-length-4 c = c .before .before .before .mm-out .given
-
-same-length-5 : tie.Need-same-length-5
-same-length-5 c = c .before .ml-out .given
 
 pub duplex-texts-spec : {M : Type 1} → statement M
 duplex-texts-spec =
@@ -155,24 +122,16 @@ duplex-texts-spec =
     (λ c κs. tt)
     returns
     (λ c. refl)
-    (λ c. refl)
-    (λ c. refl)
-    (λ c. refl)
-    (λ c. refl)
     make-texts-requires
     needed-for-requires
     (λ c κs. tt)
     returns-2
     (λ c κs. tt)
-    slice-aggregate-write-texts
-    slice-aggregate-write-texts-2
-    slice-aggregate-write-texts-3
-    slice-aggregate-write-texts-4
-    slice-aggregate-write-texts-5
+    (λ c. sym (c .before .before .before .before .before .made2 .given))
     write-texts-requires
-    same-length
-    same-length-2
-    same-length-3
-    same-length-4
-    same-length-5
+    (λ c. c .before .before .before .before .before .before .before .before .before .seq-out .given)
+    (λ c. c .before .before .before .before .before .before .before .a-mm-out .given)
+    (λ c. c .before .before .before .before .before .b-mm-out .given)
+    (λ c. c .before .before .before .mm-out .given)
+    (λ c. c .before .ml-out .given)
     returns-3)

@@ -1,5 +1,4 @@
 -- `methylation_evidence::gate_to_informative` meets its contract: refused by its number, or gated. Assumes nothing.
-use borrow.Author.Needs.{needs}
 use Rattle.lists.proofs.Output.{answer-refused, answer-passed}
 use Rattle.refusals.proofs.Refusal.{passed}
 use Rattle.methylation_evidence.specs.Gate.{gateFaults}
@@ -34,7 +33,7 @@ gate-to-informative-spec =
     (λ c κs. tt)
     returns
     gate-requires
-    (λ c. search needs)
-    (λ c. search needs)
-    (λ c. search needs)
+    (λ c. c .before .before .before .before .before .marks .given)
+    (λ c. c .before .before .before .unconverted .given)
+    (λ c. c .before .converted .given)
     returns-2)

@@ -1,7 +1,6 @@
 -- `methylation_evidence::truncate` meets its contract: refused by its number, or each output written, where it has room. Assumes nothing.
 use mathlib.Core.Path.{ap, _∙_}
 use native.Mathlib.Omega.{arith}
-use borrow.Author.Needs.{needs}
 use denote.Ref.{now}
 use Rattle.lists.proofs.Output.{answer-refused, answer-passed}
 use Rattle.refusals.proofs.Refusal.{passed}
@@ -52,7 +51,7 @@ truncate-spec =
     returns
     (λ c κs. tt)
     write-truncated-requires
-    (λ c. search needs)
-    (λ c. search needs)
-    (λ c. search needs)
+    (λ c. c .before .before .before .before .before .marks-out .given)
+    (λ c. c .before .before .before .unconverted-out .given)
+    (λ c. c .before .converted-out .given)
     returns-2)

@@ -1,6 +1,5 @@
 -- `test_methylation_interface::gedrashiw_test_duplex_methylation_tags` meets its contract: it hands on the answer. Assumes nothing.
 use Rattle.test_methylation_interface.proofs.Replied.{duplex-replied}
-use borrow.Author.Needs.{needs}
 use Rattle.test_methylation_interface.proofs.gedrashiw_test_duplex_methylation_tags.Statement.{statement}
 use Rattle.test_methylation_interface.proofs.gedrashiw_test_duplex_methylation_tags.Tie as tie
 
@@ -19,15 +18,15 @@ gedrashiw-test-duplex-methylation-tags-spec =
     (λ c κs. tt)
     (λ c κs. tt)
     (λ c κs. tt)
-    (λ c. search needs)
-    (λ c. search needs)
-    (λ c. search needs)
-    (λ c. search needs)
-    (λ c. search needs)
-    (λ c. search needs)
-    (λ c. search needs)
-    (λ c. search needs)
-    (λ c. search needs)
-    (λ c. search needs)
-    (λ c. search needs)
+    (λ c. c .before .before .before .before .before .before .before .before .before .before .before .before .before .before .before .before .before .before .before .before .before .before .seq-out .given)
+    (λ c. c .before .before .before .before .before .before .before .before .before .before .before .before .before .before .before .before .before .before .before .before .a-mm-out .given)
+    (λ c. c .before .before .before .before .before .before .before .before .before .before .before .before .before .before .before .before .before .before .b-mm-out .given)
+    (λ c. c .before .before .before .before .before .before .before .before .before .before .before .before .before .before .before .before .mm-out .given)
+    (λ c. c .before .before .before .before .before .before .before .before .before .before .before .before .before .before .ml-out .given)
+    (λ c. c .before .before .before .before .before .before .before .before .before .before .before .before .a-unconverted-out .given)
+    (λ c. c .before .before .before .before .before .before .before .before .before .before .a-converted-out .given)
+    (λ c. c .before .before .before .before .before .before .before .before .b-unconverted-out .given)
+    (λ c. c .before .before .before .before .before .before .b-converted-out .given)
+    (λ c. c .before .before .before .before .unconverted-out .given)
+    (λ c. c .before .before .converted-out .given)
     returns)
