@@ -14,7 +14,7 @@ use native.Mathlib.Nat.{sub-zero, add-comm}
 use native.Mathlib.Omega.{arith}
 use borrow.Rule.Slice.PartMut.{putMid, midOf}
 use lib.ListN.{length, take, drop, length-append}
-use lib.Seq.{take-append-seam, drop-append-seam, take-all}
+use lib.Seq.{drop-append-seam, take-all}
 use Rattle.lists.specs.Output.{unless, answer, put, after}
 use Rattle.lists.proofs.Between.{put-behind}
 use Rattle.lists.proofs.Output.{put-fitting, put-whole, length-put, put-next, copy-next, written, front-of}
