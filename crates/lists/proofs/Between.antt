@@ -13,11 +13,11 @@ use native.Mathlib.Omega.{arith}
 use borrow.Author.Tests.{le-ltb}
 use borrow.Rule.Slice.PartMut.{putMid, midOf}
 use lib.Dec.{ltb}
-use lib.ListN.{length, take, drop, length-append, length-take, take-append-drop}
+use lib.ListN.{length, take, drop, length-append, length-take}
 use lib.Seq.{take-append-seam, drop-append-seam, drop-append-add, drop-drop, length-take-le}
 use Rattle.lists.specs.Output.{put}
 use Rattle.lists.specs.Part.{leaves, part}
-use Rattle.lists.proofs.Output.{copy-next}
+use Rattle.lists.proofs.Output.{put-take, copy-next}
 
 module _ {A : Type 0} where
   -- L is the buffer before, with xs at its front.
@@ -25,17 +25,13 @@ module _ {A : Type 0} where
   unfolding put
   put-behind xs ys out e a = rw (e, a, take-append-seam, length-append, drop-append-add, drop-drop)
 
-  again : (n : ℕ) (out : List A) → n ≤ length out → out ≡ put (take n out) out
-  unfolding put
-  again n out h = rw (length-take-le n out h) (sym (take-append-drop n out))
-
   pub copied-behind :
       (xs L : List A) (at n : ℕ) {Y : List A}
       → at + n ≤ length L
       → (let k = length L - at in Y ≡ put (take (length (midOf at k L)) (take (n - 0) xs)) (midOf at k L))
       → putMid at (length L - at) L Y ≡ put (take at L ++ take n xs) L
   copied-behind xs L at n room f =
-      copy-next (take at L) L (length L - at) (again at L (omega arith)) (sym (length-take-le at L (omega arith))) (omega arith) (take n xs) (omega (arith, length-take n xs)) (rw (sub-zero n) at f)
+      copy-next (take at L) L (length L - at) (sym (put-take at L)) (sym (length-take-le at L (omega arith))) (omega arith) (take n xs) (omega (arith, length-take n xs)) (rw (sub-zero n) at f)
 
   pub part-between :
       (xs ys zs out all : List A) {L : List A} {at n : ℕ}
