@@ -8,7 +8,6 @@ use mathlib.Core.Bool.{Bool, true, false, cond, _&&_, true≢false}
 use mathlib.Core.List.{List, _∷_}
 use Prim.Native.Nat.{ℕ, _≤_}
 use lib.Dec.{eqb, ltb}
-use lib.ListN.{length}
 use borrow.Author.Tests.{ltb-false, eq-eqb, ne-eqb}
 use Rattle.refusals.specs.Refusal.{Fault, refusal, ragged}
 use Rattle.refusals.proofs.Refusal.{and-then, passed}
