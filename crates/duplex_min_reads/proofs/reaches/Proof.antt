@@ -6,7 +6,7 @@ use Rattle.duplex_min_reads.proofs.reaches.Tie as tie
 
 returns : tie.Need-returns
 unfolding reachesAll
-returns c = cc
+returns c = rw (c .before .before .before .max-u32 .ensures, c .before .min-u32 .ensures)
 
 pub reaches-spec : {M : Type 1} → statement M
 reaches-spec = tie.close (tie.spec (λ c. search needs) (λ c. search needs) (λ c κs. tt) (λ c κs. tt) returns)

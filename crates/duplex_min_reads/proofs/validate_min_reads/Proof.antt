@@ -17,7 +17,10 @@ thresholds c = now (c .before .before .before .before .before .before .before .b
 
 number : (c : tie.After-refuse-if4) → c .refuse-if4 .result ≡ refused (thresholds c)
 unfolding faults
-number c = in-order _ tt (cc)
+number c =
+    let yx = c .before .before .before .before in
+    in-order _ tt
+    (rw (c .refuse-if4 .ensures, c .before .refuse-if3 .ensures, c .before .before .refuse-if2 .ensures, c .before .before .before .refuse-if .ensures, yx .at-u323 .ensures, yx .before .at-u322 .ensures, yx .before .before .at-u32 .ensures))
 
 returns : tie.Need-returns
 unfolding validated
@@ -25,7 +28,10 @@ returns c = answer-refused Refused _ (number (c .before)) (c .if1 .taken)
 
 returns-2 : tie.Need-returns-2
 unfolding validated
-returns-2 c = cc (answer-passed Refused (Thresholds (minReads (thresholds (c .before)))) (number (c .before)) (c .if1 .left))
+returns-2 c =
+    let yx = c .before .before .before .before .before in
+    rw (yx .at-u323 .ensures, yx .before .at-u322 .ensures, yx .before .before .at-u32 .ensures)
+    (answer-passed Refused (Thresholds (minReads (thresholds (c .before)))) (number (c .before)) (c .if1 .left))
 
 pub validate-min-reads-spec : {M : Type 1} → statement M
 validate-min-reads-spec =

@@ -22,7 +22,7 @@ number :
     → let a = c .before .before .before .before .before .before .args in
     c .partition-refusal .result ≡ partitionRefused (now (a .reads)) (now (a .bytes)) (now (a .a-out)) (now (a .b-out))
 unfolding partitionRefused
-number c = cc
+number c = rw (c .partition-refusal .ensures, c .before .first-offence .ensures, c .before .before .any-leaves .ensures)
 
 returns : tie.Need-returns
 returns c =

@@ -6,7 +6,7 @@ use Rattle.duplex_partition.proofs.read_leaves.Tie as tie
 
 returns : tie.Need-returns
 unfolding miLeaves
-returns c = cc
+returns c = rw (c .part-leaves .ensures)
 
 pub read-leaves-spec : {M : Type 1} → statement M
 read-leaves-spec = tie.close (tie.spec (λ c. search needs) (λ c. search needs) (λ c. search needs) (λ c κs. tt) returns)

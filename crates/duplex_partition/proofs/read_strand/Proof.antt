@@ -6,7 +6,7 @@ use Rattle.duplex_partition.proofs.read_strand.Tie as tie
 
 returns : tie.Need-returns
 unfolding readStrand
-returns c = cc
+returns c = rw (c .extract-strand-from-mi-bytes .ensures, c .before .part-u8 .ensures)
 
 pub read-strand-spec : {M : Type 1} → statement M
 read-strand-spec = tie.close (tie.spec (λ c. search needs) (λ c. search needs) (λ c κs. tt) (λ c κs. tt) returns)
