@@ -13,9 +13,10 @@ use Rattle.lists.specs.Output.{answer, unless}
 use Rattle.refusals.specs.Refusal.{_if_, tooLong, refusal}
 use Rattle.refusals.proofs.Refusal.{and-then}
 use Rattle.duplex_min_reads.specs.MinReads.{faults, minReads, refused, reachesAll}
+use Rattle.duplex_reads.specs.Reads.{gate}
 use Rattle.duplex_reads.specs.declared.Gate.{Gate}
 use Rattle.duplex_reads.specs.declared.Gate.the-variants.{Refused as Refused-gate, Kept, Below}
-use Rattle.duplex_gate.specs.ConsensusGate.{largestWithin, consensusFaults, consensusGate}
+use Rattle.duplex_gate.specs.ConsensusGate.{largestWithin, consensusGate}
 use Rattle.duplex_kind.specs.declared.DuplexConsensus.{DuplexConsensus}
 use Rattle.duplex_kind.specs.declared.DuplexConsensus.the-variants.{Refused, NoRecord, Ab, Ba, Both}
 use Rattle.duplex_metrics.specs.Metrics.{input}
@@ -28,7 +29,7 @@ abbrev longNumber : ℕ → ℕ
 longNumber thresholds = cond (eqb thresholds 0) 7 thresholds
 
 long-gate : (n : ℕ) (ab ba ts : List ℕ) → 1024 < n → consensusGate n ab ba ts ≡ answer Refused-gate (longNumber (refused ts)) (cond (reachesAll (minReads ts) (largestWithin n ab) (largestWithin n ba)) Kept Below)
-unfolding consensusGate consensusFaults faults refusal
+unfolding consensusGate gate faults refusal
 long-gate n ab ba ts h =
     ap (λ (number : ℕ). answer Refused-gate number (cond (reachesAll (minReads ts) (largestWithin n ab) (largestWithin n ba)) Kept Below))
     (and-then (faults ts) ((7 if tooLong (n ∷ length ab ∷ length ba ∷ [])) ∷ []) refl tt ∙ ap (λ (p : Bool). cond (eqb (refused ts) 0) (refusal ((7 if p) ∷ [])) (refused ts)) met)

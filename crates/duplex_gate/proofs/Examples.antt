@@ -4,8 +4,9 @@ use mathlib.Core.List.{[], _∷_}
 use Rattle.lists.specs.Output.{unless, answer}
 use Rattle.refusals.specs.Refusal.{refusal}
 use Rattle.duplex_min_reads.specs.MinReads.{faults, reachesAll}
+use Rattle.duplex_reads.specs.Reads.{gate}
 use Rattle.duplex_reads.specs.declared.Gate.the-variants.{Refused, Kept, Below}
-use Rattle.duplex_gate.specs.ConsensusGate.{largestWithin, consensusFaults, consensusGate}
+use Rattle.duplex_gate.specs.ConsensusGate.{largestWithin, consensusGate}
 
 pub record Examples : Type 0 where
   -- A depth of 40,000 reaches a threshold of 40,000.
@@ -18,5 +19,5 @@ pub record Examples : Type 0 where
   pub thresholds-first : consensusGate 1025 [] [] [] ≡ Refused 1
 
 pub examples : Examples
-unfolding largestWithin consensusFaults consensusGate faults reachesAll refusal answer unless
+unfolding largestWithin consensusGate gate faults reachesAll refusal answer unless
 examples = record { uncapped = refl; within = refl; larger = refl; thresholds-first = refl }

@@ -2,10 +2,8 @@
 // duplex_min_reads and duplex_reads.
 ghost use mathlib.Core.Path.{_≡_};
 ghost use Rattle.duplex_gate.specs.ConsensusGate.{largestWithin, consensusGate};
-use duplex_min_reads::Validated;
-use duplex_min_reads::reaches;
-use duplex_min_reads::validate_min_reads;
 use duplex_reads::Gate;
+use duplex_reads::gate_answer;
 use lists::smaller;
 use numbers::max_u16;
 use refusals::MAX_POSITIONS;
@@ -36,25 +34,16 @@ pub fn duplex_consensus_has_minimum_reads(
 ) -> Gate
     ensures { λ r. ⌜ r ≡ consensusGate positions (now («ab_depths» .entry)) (now («ba_depths» .entry)) (now («min_reads» .entry)) ⌝ }
 {
-    match validate_min_reads(min_reads) {
-        Validated::Refused(number) => Gate::Refused(number),
-        Validated::Thresholds(thresholds) => {
-            let number = refuse_if(
-                0,
-                (MAX_POSITIONS < positions)
-                    | ((MAX_POSITIONS < ab_depths.len()) | (MAX_POSITIONS < ba_depths.len())),
-                TOO_LONG,
-            );
-            if number != 0 {
-                return Gate::Refused(number);
-            }
-            let ab = largest_within(positions, ab_depths);
-            let ba = largest_within(positions, ba_depths);
-            if reaches(thresholds, ab as u32, ba as u32) {
-                Gate::Kept
-            } else {
-                Gate::Below
-            }
-        }
+    let number = refuse_if(
+        0,
+        (MAX_POSITIONS < positions)
+            | ((MAX_POSITIONS < ab_depths.len()) | (MAX_POSITIONS < ba_depths.len())),
+        TOO_LONG,
+    );
+    if number != 0 {
+        return gate_answer(min_reads, number, 0, 0);
     }
+    let ab = largest_within(positions, ab_depths);
+    let ba = largest_within(positions, ba_depths);
+    gate_answer(min_reads, number, ab as u32, ba as u32)
 }

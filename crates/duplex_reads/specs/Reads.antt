@@ -7,7 +7,7 @@ use Rattle.lists.specs.Count.{countOf}
 use Rattle.lists.specs.Output.{answer}
 use Rattle.refusals.specs.Refusal.{Fault, _if_, tooMany, refusal}
 use Rattle.flags.specs.Flags.{paired, unmapped, mateUnmapped, reverse, firstSegment, lastSegment, isSet}
-use Rattle.duplex_min_reads.specs.MinReads.{faults, minReads, reachesAll}
+use Rattle.duplex_min_reads.specs.MinReads.{faults, minReads, refused, reachesAll}
 use Rattle.duplex_reads.specs.declared.Gate.{Gate}
 use Rattle.duplex_reads.specs.declared.Gate.the-variants.{Refused, Kept, Below}
 use Rattle.duplex_reads.specs.declared.ReadType.{ReadType}
@@ -34,13 +34,17 @@ writtenFlags R2 = paired + unmapped + mateUnmapped + lastSegment
 abbrev pub countR1 : List ℕ → ℕ
 countR1 reads = countOf isPairedR1 reads
 
--- Thresholds, and the numbers of reads of the two strands.
-unfoldable pub gateFaults : List ℕ → ℕ → ℕ → List Fault
-gateFaults ts a b = faults ts ++ (9 if tooMany (a ∷ b ∷ [])) ∷ []
+-- A gate's answer: refused by the thresholds, then by the faults of what is counted, or by the two strands' counts.
+unfoldable pub gate : List ℕ → List Fault → ℕ → ℕ → Gate
+gate ts own a b = answer Refused (refusal (faults ts ++ own)) (cond (reachesAll (minReads ts) a b) Kept Below)
+
+-- The same where the number of the own faults' refusal is known.
+unfoldable pub gateAnswer : List ℕ → ℕ → ℕ → ℕ → Gate
+gateAnswer ts number a b = answer Refused (refused ts) (answer Refused number (cond (reachesAll (minReads ts) a b) Kept Below))
 
 -- The reads of A and of B, and the thresholds.
 unfoldable pub readGate : List ℕ → List ℕ → List ℕ → Gate
-readGate a b ts = answer Refused (refusal (gateFaults ts (length a) (length b))) (cond (reachesAll (minReads ts) (countR1 a) (countR1 b)) Kept Below)
+readGate a b ts = gate ts ((9 if tooMany (length a ∷ length b ∷ [])) ∷ []) (countR1 a) (countR1 b)
 
 abbrev pub isReverse : ℕ → Bool
 isReverse flags = isSet flags reverse

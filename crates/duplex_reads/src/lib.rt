@@ -4,7 +4,7 @@ ghost use mathlib.Core.Path.{_≡_};
 ghost use Prim.Native.Nat.{_≤_};
 ghost use lib.ListN.{length};
 ghost use Rattle.lists.specs.Count.{countIf};
-ghost use Rattle.duplex_reads.specs.Reads.{isPaired, isPairedR1, isPairedR2, writtenFlags, countR1, allReverseAs, readGate, sameStrand};
+ghost use Rattle.duplex_reads.specs.Reads.{isPaired, isPairedR1, isPairedR2, writtenFlags, countR1, gateAnswer, readGate, allReverseAs, sameStrand};
 use duplex_min_reads::Validated;
 use duplex_min_reads::reaches;
 use duplex_min_reads::validate_min_reads;
@@ -100,29 +100,39 @@ fn count_r1(reads: &[u16]) -> u32
     count
 }
 
-// The read gate: whether the paired first reads of the two strands reach the thresholds. Refuses by the thresholds' rows, then
-// by 9.
-pub fn has_minimum_number_of_reads(a_reads: &[u16], b_reads: &[u16], min_reads: &[u32]) -> Gate
-    ensures { λ r. ⌜ r ≡ readGate (now («a_reads» .entry)) (now («b_reads» .entry)) (now («min_reads» .entry)) ⌝ }
+// A gate's answer by a count of each strand. Refuses by the thresholds' rows, then by a number that is not 0.
+pub fn gate_answer(min_reads: &[u32], number: u8, a: u32, b: u32) -> Gate
+    ensures { λ r. ⌜ r ≡ gateAnswer (now («min_reads» .entry)) number a b ⌝ }
 {
     match validate_min_reads(min_reads) {
-        Validated::Refused(number) => Gate::Refused(number),
+        Validated::Refused(first) => Gate::Refused(first),
         Validated::Thresholds(thresholds) => {
-            let number = refuse_if(
-                0,
-                (MAX_READS < a_reads.len()) | (MAX_READS < b_reads.len()),
-                TOO_MANY_READS,
-            );
             if number != 0 {
                 return Gate::Refused(number);
             }
-            if reaches(thresholds, count_r1(a_reads), count_r1(b_reads)) {
+            if reaches(thresholds, a, b) {
                 Gate::Kept
             } else {
                 Gate::Below
             }
         }
     }
+}
+
+// The read gate: whether the paired first reads of the two strands reach the thresholds. Refuses by the thresholds' rows, then
+// by 9.
+pub fn has_minimum_number_of_reads(a_reads: &[u16], b_reads: &[u16], min_reads: &[u32]) -> Gate
+    ensures { λ r. ⌜ r ≡ readGate (now («a_reads» .entry)) (now («b_reads» .entry)) (now («min_reads» .entry)) ⌝ }
+{
+    let number = refuse_if(
+        0,
+        (MAX_READS < a_reads.len()) | (MAX_READS < b_reads.len()),
+        TOO_MANY_READS,
+    );
+    if number != 0 {
+        return gate_answer(min_reads, number, 0, 0);
+    }
+    gate_answer(min_reads, number, count_r1(a_reads), count_r1(b_reads))
 }
 
 fn all_reverse_as(reverse: bool, reads: &[u16]) -> bool

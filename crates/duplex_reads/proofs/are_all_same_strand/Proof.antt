@@ -16,7 +16,7 @@ use Rattle.duplex_reads.proofs.are_all_same_strand.Tie as tie
 
 number : (c : tie.After-refuse-if) → c .refuse-if .result ≡ refusal (strandFaults (length (now (c .before .before .args .reads))))
 unfolding strandFaults
-number c = in-order _ tt (cc)
+number c = in-order _ tt (c .refuse-if .ensures)
 
 -- The list that was passed, where all is computed.
 abbrev reads : tie.After-all-reverse-as → List ℕ
@@ -26,7 +26,7 @@ abbrev orientation : Bool → SameStrand
 orientation b = cond b Same Mixed
 
 outcome : (c : tie.After-all-reverse-as) → allReverseAs (isReverse (getD (reads c) 0 0)) (reads c) ≡ c .all-reverse-as .result
-outcome c = cc
+outcome c = rw (c .all-reverse-as .ensures, c .before .is-set .ensures, c .before .before .at-u16 .ensures)
 
 -- What is answered where the call is not refused.
 passed : (c : tie.After-all-reverse-as) → orientation (c .all-reverse-as .result) ≡ sameStrand (reads c)
