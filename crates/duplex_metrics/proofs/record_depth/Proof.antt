@@ -11,7 +11,7 @@ add-result c = record { fits = omega (arith, c .before .capped-at .ensures, c .c
 
 returns : tie.Need-returns
 unfolding recordDepth
-returns c = cc
+returns c = rw (c .before .capped-at .ensures, c .capped-at2 .ensures)
 
 pub record-depth-spec : {M : Type 1} → statement M
 record-depth-spec = tie.close (tie.spec (λ c κs. tt) (λ c κs. tt) add-result returns)
