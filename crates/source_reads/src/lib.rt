@@ -25,17 +25,11 @@ pub struct SourceRead {
     pub length: usize,
 }
 
-fn read_leaves(read: SourceRead, size: usize) -> bool
-    ensures { λ r. ⌜ r ≡ readLeaves size read ⌝ }
-{
-    part_leaves(read.offset, read.length, size)
-}
-
 // Whether one more read's part leaves the buffer, or one before.
 fn leaves_too(met: bool, read: SourceRead, size: usize) -> bool
     ensures { λ r. ⌜ r ≡ (met || readLeaves size read) ⌝ }
 {
-    met | read_leaves(read, size)
+    met | part_leaves(read.offset, read.length, size)
 }
 
 // Whether the part of some read leaves a buffer of a size. Where there is no list, the reads are not looked at.

@@ -2,41 +2,22 @@
 -- nothing.
 use Prim.Native.Nat.{_-_}
 use native.Mathlib.Omega.{arith}
-use Rattle.lists.proofs.Output.{same, fits}
-use Rattle.source_reads.specs.Bases.{unmaskedAt, Within}
+use Rattle.source_reads.specs.Bases.{unmaskedAt}
 use Rattle.source_reads.proofs.Adding.{Adding, start, turn, end}
 use Rattle.source_reads.proofs.add_uncalled_errors.Statement.{statement}
 use Rattle.source_reads.proofs.add_uncalled_errors.Tie as tie
 
 abbrev Inv-loop : tie.InvT-loop
 Inv-loop bases n a-bases a-quals b-bases b-quals errors₀ i₀ errors i =
-    Within n bases a-bases a-quals b-bases b-quals errors₀ × Adding n bases (λ j. unmaskedAt a-bases a-quals b-bases b-quals j) errors₀ i errors
+    Adding n bases a-bases a-quals b-bases b-quals (unmaskedAt a-bases a-quals b-bases b-quals) errors₀ i errors
 
 abbrev μ-loop : tie.MeasureT-loop
 μ-loop bases n a-bases a-quals b-bases b-quals errors₀ i₀ errors i = n - i
 
-loop-holds : tie.Need-loop-holds Inv-loop μ-loop
-loop-holds c =
-    let pre = c .before .before .before .before .before .before .pre in
-    (pre, start (pre .counted))
-
-slice-read-one-more : tie.Need-slice-read-one-more Inv-loop μ-loop
-slice-read-one-more c = fits (c .before .before .before .before .before .before .before .before .before .loop .inv .1 .filling) (c .before .before .before .before .before .before .before .before .loop-test .taken)
-
-slice-write-errors : tie.Need-slice-write-errors Inv-loop μ-loop
-slice-write-errors c = fits (c .before .before .before .before .before .before .before .before .before .before .loop .inv .1 .filling) (c .before .before .before .before .before .before .before .before .before .loop-test .taken)
-
 loop-again : tie.Need-loop-again Inv-loop μ-loop
 loop-again c =
     let in-loop = c .before .before .before .before .before .before .before .before .before in
-    let inv = in-loop .before .loop .inv in
-    (inv .0, turn (inv .1) (in-loop .loop-test .taken) (c .before .before .before .before .unmasked-base .ensures) (c .before .before .is-error .ensures) (c .one-more .ensures))
-
-same-length : tie.Need-same-length Inv-loop μ-loop
-same-length c = same (c .before .loop .inv .1 .filling)
-
-returns : tie.Need-returns Inv-loop μ-loop
-returns c = end (c .before .loop .inv .1) (c .loop-test .left)
+    turn (in-loop .before .loop .inv) (in-loop .loop-test .taken) (c .before .before .before .before .unmasked-base .ensures) (c .before .before .is-error .ensures) (c .one-more .ensures)
 
 pub add-uncalled-errors-spec : {M : Type 1} → statement M
 add-uncalled-errors-spec =
@@ -44,7 +25,7 @@ add-uncalled-errors-spec =
     (tie.spec
     Inv-loop
     μ-loop
-    loop-holds
+    (λ c. start (c .before .before .before .before .before .before .pre))
     (λ c. omega arith)
     (λ c. omega arith)
     (λ c. omega arith)
@@ -53,12 +34,12 @@ add-uncalled-errors-spec =
     (λ c. omega arith)
     (λ c κs. tt)
     (λ c. omega arith)
-    slice-read-one-more
+    (λ c. omega arith)
     (λ c κs. tt)
     (λ c. omega arith)
-    slice-write-errors
+    (λ c. omega arith)
     (λ c. omega arith)
     (λ c. omega arith)
     loop-again
-    same-length
-    returns)
+    (λ c. c .before .loop .inv .as-long)
+    (λ c. end (c .before .loop .inv) (c .loop-test .left)))

@@ -9,7 +9,8 @@ itself : (n : ℕ) → n ≡ min n n
 itself n = omega arith
 
 returns : tie.Need-returns
-returns c = rw (← itself) (cc)
+returns c =
+    rw (← itself, c .smaller5 .ensures, c .before .smaller4 .ensures, c .before .before .smaller3 .ensures, c .before .before .before .smaller2 .ensures, c .before .before .before .before .smaller .ensures)
 
 pub counted-length-spec : {M : Type 1} → statement M
 counted-length-spec = tie.close (tie.spec (λ c κs. tt) (λ c κs. tt) (λ c κs. tt) (λ c κs. tt) (λ c κs. tt) returns)
