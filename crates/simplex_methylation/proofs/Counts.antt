@@ -1,5 +1,5 @@
 -- Laws of what is written to a lent output, place by place, and of counts that one more read is added to.
---     Adding                     the invariant of a loop that adds one more where a position is met: start, within, few, further, all-added
+--     Adding                     the invariant of a loop that adds one more where a position is met: start, few, further, all-added
 --     fewer-places               positions that are not met need no store
 --     one-read-more              one more read, of counts that are a table
 -- Assumes nothing.
@@ -14,7 +14,7 @@ use lib.ListN.{length, getD, set}
 use lib.Seq.{ext-getD}
 use Rattle.lists.specs.Output.{put}
 use Rattle.lists.specs.Table.{tabulate}
-use Rattle.lists.proofs.Output.{length-put, Filling, begin, same, fits, next, done}
+use Rattle.lists.proofs.Output.{length-put, Filling, begin, same, next, done}
 use Rattle.lists.proofs.Table.{length-tabulate, getD-tabulate}
 use Rattle.lists.proofs.Written.{table-front, table-behind, unwritten}
 use Rattle.simplex_methylation.specs.Simplex.{added, Below}
@@ -44,27 +44,22 @@ more met c i = cond (met i) (c i + 1) (c i)
 pub record Adding (n : ℕ) (met : ℕ → Bool) (before : List ℕ) (i : ℕ) (now : List ℕ) : Type 0 where
   pub filling : Filling n (added n met before) before i now
   pub below : Below 1024 n before
+  pub room : n ≤ length before
+  pub as-long : length now ≡ length before
 
 pub start : {n : ℕ} (met : ℕ → Bool) {before : List ℕ} → (n ≤ length before) × Below 1024 n before → Adding n met before 0 before
 unfolding added
-start {n} met h = record { filling = begin (length-tabulate n _) (h .0); below = h .1 }
+start {n} met h = record { filling = begin (length-tabulate n _) (h .0); below = h .1; room = h .0; as-long = refl }
 
 module _ {n : ℕ} {met : ℕ → Bool} {before : List ℕ} {i : ℕ} {now : List ℕ} (a : Adding n met before i now) where
-  pub as-long : length now ≡ length before
-  as-long = same (a .filling)
-
-  pub within : i < n → i < length now
-  within l = fits (a .filling) l
-
   pub few : i < n → getD now i 0 < 1024
   few l = omega (arith, unwritten 0 (a .filling), a .below i l)
 
   pub further : i < n → {b : Bool} {v : ℕ} → b ≡ met i → v ≡ cond b (getD now i 0 + 1) (getD now i 0) → Adding n met before (i + 1) (set now i v)
   unfolding added
-  further l e f = record {
-    filling = next 0 _ (a .filling) l (rw (f, e, unwritten 0 (a .filling)) (sym (getD-tabulate n _ i 0 l)));
-    below = a .below;
-  }
+  further l {v = v} e f =
+      let filled : Filling n (added n met before) before (i + 1) (set now i v) = next 0 _ (a .filling) l (rw (f, e, unwritten 0 (a .filling)) (sym (getD-tabulate n _ i 0 l))) in
+      record { filling = filled; below = a .below; room = a .room; as-long = same filled }
 
   pub all-added : n ≤ i → now ≡ put (added n met before) before
   all-added l = done (a .filling) l

@@ -1,6 +1,6 @@
 // Methylation evidence of a simplex consensus, from methylation.rs. Uses lists, refusals, dna, methylation and source_reads.
 ghost use mathlib.Core.Path.{_≡_};
-ghost use mathlib.Core.Bool.{false, cond, _&&_, _||_};
+ghost use mathlib.Core.Bool.{false, cond, _&&_};
 ghost use mathlib.Core.List.{[], _∷_};
 ghost use Prim.Native.Nat.{ℕ, _+_, _-_, _<_, _≤_, min};
 ghost use lib.ListN.{length, replicate};
@@ -8,13 +8,12 @@ ghost use lib.Dec.{eqb};
 ghost use Rattle.lists.specs.Output.{answer, put};
 ghost use Rattle.refusals.specs.Refusal.{refusal};
 ghost use Rattle.methylation.specs.Methylation.{patternBases};
-ghost use Rattle.source_reads.specs.Reads.{readLeaves, anyLeaves};
+ghost use Rattle.source_reads.specs.Reads.{readLeaves};
 ghost use Rattle.methylation.specs.Arrays.{evidenceArrays};
 ghost use Rattle.simplex_methylation.specs.Simplex.{setting, isLetter, baseIs, looked, marksOf, added, Below, simplexFaults, BegunAs, AddedAs, AnnotatedAs};
 ghost use Rattle.simplex_methylation.specs.declared.SimplexMethylation.the-variants.{Refused, Written};
 use dna::to_ascii_uppercase;
 use lists::at_u8;
-use lists::part_leaves;
 use lists::smaller;
 use methylation::ConversionPattern;
 use methylation::PatternBases;
@@ -26,6 +25,7 @@ use refusals::TOO_LONG;
 use refusals::TOO_MANY_READS;
 use refusals::refuse_if;
 use source_reads::SourceRead;
+use source_reads::list_leaves;
 
 pub enum SimplexMethylation {
     Refused(u8),
@@ -38,27 +38,6 @@ fn is_letter(letter: u8, base: u8) -> bool
     ensures { λ r. ⌜ r ≡ isLetter letter base ⌝ }
 {
     to_ascii_uppercase(base) == letter
-}
-
-// Whether one more read's part leaves the buffer, or one before.
-fn leaves_too(met: bool, read: SourceRead, size: usize) -> bool
-    ensures { λ r. ⌜ r ≡ (met || readLeaves size read) ⌝ }
-{
-    met | part_leaves(read.offset, read.length, size)
-}
-
-fn any_part_leaves(reads: &[SourceRead], size: usize) -> bool
-    ensures { λ r. ⌜ r ≡ anyLeaves size (now (reads .entry)) ⌝ }
-{
-    let n = reads.len();
-    let mut met = false;
-    let mut i = 0usize;
-    while i < n {
-        let r = reads[i];
-        met = leaves_too(met, r, size);
-        i += 1;
-    }
-    met
 }
 
 fn simplex_refusal(
@@ -308,7 +287,7 @@ pub fn annotate_simplex_methylation(
         (evidenceArrays (now («marks_out» .exit)) (now («unconverted_out» .exit)) (now («converted_out» .exit)))
         r ⌝ }
 {
-    let leaving = any_part_leaves(reads, bytes.len());
+    let leaving = list_leaves(true, reads, bytes.len());
     let number = begin_annotation(
         consensus_len,
         reads.len(),

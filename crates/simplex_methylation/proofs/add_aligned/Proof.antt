@@ -4,7 +4,7 @@ use native.Mathlib.Omega.{arith}
 use mathlib.Core.Path.{_≡_}
 use mathlib.Core.Bool.{Bool, _&&_}
 use Rattle.simplex_methylation.specs.Simplex.{informative, isAligned, looked, baseIs}
-use Rattle.simplex_methylation.proofs.Counts.{Adding, start, as-long, within, few, further, all-added}
+use Rattle.simplex_methylation.proofs.Counts.{Adding, start, few, further, all-added}
 use Rattle.simplex_methylation.proofs.add_aligned.Statement.{statement}
 use Rattle.simplex_methylation.proofs.add_aligned.Tie as tie
 
@@ -26,35 +26,15 @@ shared-slice-read-counts c =
     let turn = c .before .before .before .before in
     turn .before .before .before .before .before .before .before .pre .1 .1 .0 _ (turn .loop-test .taken)
 
-slice-read-count-one : tie.Need-slice-read-count-one Inv-loop μ-loop
-slice-read-count-one c =
-    let turn = c .before .before .before .before .before in
-    within (turn .before .loop .inv .0) (turn .loop-test .taken)
-
 count-one-requires : tie.Need-count-one-requires Inv-loop μ-loop
 count-one-requires c κs =
     let turn = c .before .before .before .before .before .before in
     few (turn .before .loop .inv .0) (turn .loop-test .taken)
 
-slice-write-unconverted-out : tie.Need-slice-write-unconverted-out Inv-loop μ-loop
-slice-write-unconverted-out c =
-    let turn = c .before .before .before .before .before .before .before in
-    within (turn .before .loop .inv .0) (turn .loop-test .taken)
-
-slice-read-count-one-2 : tie.Need-slice-read-count-one-2 Inv-loop μ-loop
-slice-read-count-one-2 c =
-    let turn = c .before .before .before .before .before .before .before .before in
-    within (turn .before .loop .inv .1) (turn .loop-test .taken)
-
 count-one-requires-2 : tie.Need-count-one-requires-2 Inv-loop μ-loop
 count-one-requires-2 c κs =
     let turn = c .before .before .before .before .before .before .before .before .before in
     few (turn .before .loop .inv .1) (turn .loop-test .taken)
-
-slice-write-converted-out : tie.Need-slice-write-converted-out Inv-loop μ-loop
-slice-write-converted-out c =
-    let turn = c .before .before .before .before .before .before .before .before .before .before in
-    within (turn .before .loop .inv .1) (turn .loop-test .taken)
 
 -- The tests as the code joins them.
 joined : {a a′ b b′ : Bool} (m : Bool) → a ≡ a′ → b ≡ b′ → ((a && m) && b) ≡ ((a′ && m) && b′)
@@ -72,12 +52,6 @@ loop-again c =
       further (inv .0) more (joined _ (marked .is-letter .ensures) (counted .before .is-letter2 .ensures)) (counted .count-one .ensures),
       further (inv .1) more (joined _ (marked .is-letter .ensures) (last .is-letter3 .ensures)) (c .count-one2 .ensures),
     )
-
-same-length : tie.Need-same-length Inv-loop μ-loop
-same-length c = as-long (c .before .loop .inv .0)
-
-same-length-2 : tie.Need-same-length-2 Inv-loop μ-loop
-same-length-2 c = as-long (c .before .loop .inv .1)
 
 returns : tie.Need-returns Inv-loop μ-loop
 returns c =
@@ -97,20 +71,20 @@ add-aligned-spec =
     (λ c κs. tt)
     shared-slice-read-counts
     (λ c. omega arith)
-    slice-read-count-one
+    (λ c. omega arith)
     (λ c κs. tt)
     count-one-requires
     (λ c. omega arith)
-    slice-write-unconverted-out
     (λ c. omega arith)
-    slice-read-count-one-2
+    (λ c. omega arith)
+    (λ c. omega arith)
     (λ c κs. tt)
     count-one-requires-2
     (λ c. omega arith)
-    slice-write-converted-out
+    (λ c. omega arith)
     (λ c. omega arith)
     (λ c. omega arith)
     loop-again
-    same-length
-    same-length-2
+    (λ c. c .before .loop .inv .0 .as-long)
+    (λ c. c .before .loop .inv .1 .as-long)
     returns)

@@ -25,9 +25,9 @@ use prog.Wp.{Heap, Out, Env, Calls, Loops, Wp, WpFn, Tables, afterSeq, afterBloc
 use ghost.Atoms.{Atoms}
 use contract.Monad.{Fun, fact}
 use contract.Running.{givenOf, tables, tablesOf}
-use types.Kit.{Given, Item, Sq, runs, anyQ, atRet, ‵, raw, _⊛_, ⋆, some as someᵢ, later, _$_, _∵_, !, qed, by, move, keep, group, drop, use1, split, join, pick, rewrite, fsplit, fjoin, suffices, frame, await, done}
+use types.Kit.{Given, Item, Sq, runs, anyQ, atRet, ‵, raw, _⊛_, ⋆, some as someᵢ, later, _$_, _∵_, !, qed, cut, by, move, keep, group, drop, use1, split, join, pick, rewrite, fsplit, fjoin, suffices, frame, await, done}
 use types.Part.{whole, sub, look-in, agg}
-use types.Run.{look, look-raw, store, init, forget, stop, hop, fld, from, load, lit, of-opd, bin, addr, and-then, no-more, assigns, assigns-last, land, first, skips, jumps, blocks, branches, returns, enter, alloc1, alloc0, params1, pass1, pass0, exec, Below, again, loops}
+use types.Run.{look, look-raw, store, init, forget, stop, hop, fld, from, load, lit, true-lit, of-opd, bin, addr, and-then, no-more, assigns, assigns-last, land, first, skips, jumps, blocks, branches, returns, enter, alloc1, alloc0, params1, pass1, pass0, exec, Below, again, loops}
 use sound.WpLaws.{fmOf, WpFn-mono}
 use denote.RattleType.{owns}
 use denote.Shadow.{pureI}
@@ -59,7 +59,7 @@ use mir.Syntax.{Opd as Operand, Place, Body, seq, call, erased, mut, tyRef, tyUn
 use mir.Val.{WT, hasTy}
 use denote.Memory.{pointee}
 use denote.Slice.{sliceTy}
-use mathlib.Core.Bool.{false, cond}
+use mathlib.Core.Bool.{true, false, cond}
 use lib.Dec.{eqb}
 use Rattle.lists.specs.Output.{answer}
 use Rattle.methylation.specs.Methylation.{patternBases}
@@ -77,10 +77,10 @@ use Rattle.methylation.proofs.ConversionPattern.Laws as ConversionPattern-laws
 use Rattle.simplex_methylation.specs.declared.SimplexMethylation.{SimplexMethylation}
 use Rattle.simplex_methylation.proofs.SimplexMethylation as SimplexMethylation-row
 use Rattle.simplex_methylation.proofs.SimplexMethylation.Laws as SimplexMethylation-laws
-use Rattle.simplex_methylation.proofs.any_part_leaves as any-part-leaves
-use Rattle.simplex_methylation.proofs.any_part_leaves.Symbol as any-part-leaves-def
-use Rattle.simplex_methylation.proofs.any_part_leaves.Symbol.{name as #simplex-methylation·any-part-leaves}
-use Rattle.simplex_methylation.proofs.any_part_leaves.Met as any-part-leaves-thm
+use Rattle.source_reads.proofs.list_leaves as list-leaves
+use Rattle.source_reads.proofs.list_leaves.Symbol as list-leaves-def
+use Rattle.source_reads.proofs.list_leaves.Symbol.{name as #source-reads·list-leaves}
+use Rattle.source_reads.proofs.list_leaves.Met as list-leaves-thm
 use Rattle.simplex_methylation.proofs.begin_annotation as begin-annotation
 use Rattle.simplex_methylation.proofs.begin_annotation.Symbol as begin-annotation-def
 use Rattle.simplex_methylation.proofs.begin_annotation.Symbol.{name as #simplex-methylation·begin-annotation}
@@ -106,9 +106,9 @@ use Rattle.simplex_methylation.proofs.annotate_simplex_methylation.Code
 abbrev stayed : Stays (me.ended .signature .params) (me.ended .kept)
 stayed = (stay-none (λ _. usize) yes, (stay-none-slice (0 ∷ []) tt (plain (λ _. SourceRead-row.the-row)) yes, (stay-none-slice (1 ∷ []) tt (plain (λ _. u8)) yes, (stay-none-slice (2 ∷ []) tt (plain (λ _. u8)) yes, (stay-none (λ _. ConversionPattern-row.the-row) yes, (stay-none-slice (3 ∷ []) tt (plain (λ _. u8)) yes, (stay-none (λ _. bool) yes, (stay-slice (4 ∷ []) tt (plain (λ _. u8)), (stay-slice (5 ∷ []) tt (plain (λ _. u32)), (stay-slice (6 ∷ []) tt (plain (λ _. u32)), tt))))))))))
 
--- the contract of `simplex_methylation::any_part_leaves`
-abbrev AnypartleavesC : {M : Type 1} (𝓤 : URA M) (H : Heap 𝓤) (A : Atoms 𝓤) (mem : Memory → SProp 𝓤) (run : Routine → Fun 𝓤) → Contract 𝓤
-AnypartleavesC 𝓤 H A mem run = tripleOf 𝓤 H A any-part-leaves.signature (any-part-leaves.spec 𝓤 H A mem run)
+-- the contract of `source_reads::list_leaves`
+abbrev ListleavesC : {M : Type 1} (𝓤 : URA M) (H : Heap 𝓤) (A : Atoms 𝓤) (mem : Memory → SProp 𝓤) (run : Routine → Fun 𝓤) → Contract 𝓤
+ListleavesC 𝓤 H A mem run = tripleOf 𝓤 H A list-leaves.signature (list-leaves.spec 𝓤 H A mem run)
 
 -- the contract of `simplex_methylation::begin_annotation`
 abbrev BeginannotationC : {M : Type 1} (𝓤 : URA M) (H : Heap 𝓤) (A : Atoms 𝓤) (mem : Memory → SProp 𝓤) (run : Routine → Fun 𝓤) → Contract 𝓤
@@ -126,14 +126,14 @@ AddreadC 𝓤 H A mem run = tripleOf 𝓤 H A add-read.signature (add-read.spec 
 abbrev SimplexanswerC : {M : Type 1} (𝓤 : URA M) (H : Heap 𝓤) (A : Atoms 𝓤) (mem : Memory → SProp 𝓤) (run : Routine → Fun 𝓤) → Contract 𝓤
 SimplexanswerC 𝓤 H A mem run = tripleOf 𝓤 H A simplex-answer.signature (simplex-answer.spec 𝓤 H A mem run)
 
--- the call of `simplex_methylation::any_part_leaves`: what it is passed, and what it asks of the tokens (as one entry) and of what the slices own, in this order
+-- the call of `source_reads::list_leaves`: what it is passed, and what it asks of the tokens (as one entry) and of what the slices own, in this order
 module _ {M : Type 1} (𝓤 : URA M) (H : Heap 𝓤) (A : Atoms 𝓤) (W : Given 𝓤 H A) (mem : Memory → SProp 𝓤) (run : Routine → Fun 𝓤) (k0 : Lft) (p0 : Share) (y0 : RefT (List SourceRead)) (y1 : ℕ) (h1 : y1 < 2 ^ 64) where
-  abbrev any-part-leaves-to : AnypartleavesC 𝓤 H A mem run .Ghost
-  any-part-leaves-to = (((k0, tt), (p0, tt), tt, (y0, (y1, tt)), (sliceVal (y0 .ptr) (length (y0 .now)) ∷ [], (vint w64 y1 ∷ [], tt))), tt)
+  abbrev list-leaves-to : ListleavesC 𝓤 H A mem run .Ghost
+  list-leaves-to = (((k0, tt), (p0, tt), tt, (true, (y0, (y1, tt))), (vbool true ∷ [], (sliceVal (y0 .ptr) (length (y0 .now)) ∷ [], (vint w64 y1 ∷ [], tt)))), tt)
 
-  any-part-leaves-asked : ent 𝓤 (⋆ 𝓤 H A ((‵ (flft k0 p0) ⊛ ‵ ftrue) ∷ ‵ (ShrSlice (named 0) k0 SourceRead-row.the-row .own y0 (sliceVal (y0 .ptr) (length (y0 .now)) ∷ [])) ∷ [])) (AnypartleavesC 𝓤 H A mem run .pre any-part-leaves-to)
-  any-part-leaves-asked =
-      qed W ((‵ (flft k0 p0) ⊛ ‵ ftrue) ∷ ‵ (ShrSlice (named 0) k0 SourceRead-row.the-row .own y0 (sliceVal (y0 .ptr) (length (y0 .now)) ∷ [])) ∷ []) ∵ nothing ! $ owned ! usize (Is usize) (uint-makes 𝓤 H A W w64) y1 (vint w64 y1 ∷ []) (refl, h1) $ fjoin ! $ move ! (2 ∷ 0 ∷ []) $ fjoin ! $ move ! (1 ∷ 0 ∷ []) $ join ! $ frame ! $ done !
+  list-leaves-asked : ent 𝓤 (⋆ 𝓤 H A ((‵ (flft k0 p0) ⊛ ‵ ftrue) ∷ ‵ (ShrSlice (named 0) k0 SourceRead-row.the-row .own y0 (sliceVal (y0 .ptr) (length (y0 .now)) ∷ [])) ∷ [])) (ListleavesC 𝓤 H A mem run .pre list-leaves-to)
+  list-leaves-asked =
+      qed W ((‵ (flft k0 p0) ⊛ ‵ ftrue) ∷ ‵ (ShrSlice (named 0) k0 SourceRead-row.the-row .own y0 (sliceVal (y0 .ptr) (length (y0 .now)) ∷ [])) ∷ []) ∵ nothing ! $ owned ! usize (Is usize) (uint-makes 𝓤 H A W w64) y1 (vint w64 y1 ∷ []) (refl, h1) $ fjoin ! $ move ! (2 ∷ 0 ∷ []) $ fjoin ! $ owned ! bool (Is bool) (bool-makes 𝓤 H A W) true (vbool true ∷ []) refl $ fjoin ! $ move ! (1 ∷ 0 ∷ []) $ join ! $ frame ! $ done !
 
 -- the call of `simplex_methylation::begin_annotation`: what it is passed, and what it asks of the tokens (as one entry) and of what the slices own, in this order
 module _ {M : Type 1} (𝓤 : URA M) (H : Heap 𝓤) (A : Atoms 𝓤) (W : Given 𝓤 H A) (mem : Memory → SProp 𝓤) (run : Routine → Fun 𝓤) (k0 k1 k2 k3 : Lft) (p0 p1 p2 p3 : Share) (y0 : ℕ) (y1 : ℕ) (y2 : Bool) (y3 : RefT (List ℕ)) (y4 : ConversionPattern) (y5 : RefT (List ℕ)) (y6 : RefT (List ℕ)) (y7 : RefT (List ℕ)) (h0 : y0 < 2 ^ 64) (h1 : y1 < 2 ^ 64) (h4 : Is ConversionPattern-row.the-row y4 (EL.val ConversionPattern-row.the-type ConversionPattern-laws.the-laws y4 ∷ [])) where
@@ -217,6 +217,19 @@ module _ {M : Type 1} (𝓤 : URA M) (H : Heap 𝓤) (A : Atoms 𝓤) (W : Given
   -- what stands after the locals: the tokens, and what each slice owns (of a `&mut`, obs and the borrow, at the list that is behind it now)
   abbrev Extras : List ℕ → List ℕ → List ℕ → List (Item 𝓤)
   Extras zs7 zs8 zs9 = ‵ (flft κ0 q0) ∷ ‵ (flft κ1 q1) ∷ ‵ (flft κ2 q2) ∷ ‵ (flft κ3 q3) ∷ ‵ (flft κ4 q4) ∷ ‵ (flft κ5 q5) ∷ ‵ (flft κ6 q6) ∷ ‵ Own1 ∷ ‵ Own2 ∷ ‵ Own3 ∷ ‵ Own5 ∷ ‵ (fobs (s7 .name) (codedHoleys u8 .code (heres u8 zs7))) ∷ ‵ (fbor κ4 (Held u8 (length zs7) (s7 .ptr .0) (s7 .ptr .1) (s7 .name))) ∷ ‵ (fobs (s8 .name) (codedHoleys u32 .code (heres u32 zs8))) ∷ ‵ (fbor κ5 (Held u32 (length zs8) (s8 .ptr .0) (s8 .ptr .1) (s8 .name))) ∷ ‵ (fobs (s9 .name) (codedHoleys u32 .code (heres u32 zs9))) ∷ ‵ (fbor κ6 (Held u32 (length zs9) (s9 .ptr .0) (s9 .ptr .1) (s9 .name))) ∷ []
+
+  -- what there is on entry: the tokens, and what the parameters own
+  abbrev Toks : Item 𝓤
+  Toks = (‵ (flft κ0 q0) ⊛ (‵ (flft κ1 q1) ⊛ (‵ (flft κ2 q2) ⊛ (‵ (flft κ3 q3) ⊛ (‵ (flft κ4 q4) ⊛ (‵ (flft κ5 q5) ⊛ (‵ (flft κ6 q6) ⊛ ‵ ftrue)))))))
+
+  abbrev Owns : Fml
+  Owns = owns (usize ∷ ShrSlice (named 0) κ0 SourceRead-row.the-row ∷ ShrSlice (named 1) κ1 u8 ∷ ShrSlice (named 2) κ2 u8 ∷ ConversionPattern-row.the-row ∷ ShrSlice (named 3) κ3 u8 ∷ bool ∷ MutSlice (named 4) κ4 u8 ∷ MutSlice (named 5) κ5 u32 ∷ MutSlice (named 6) κ6 u32 ∷ []) (x0, (s1, (s2, (s3, (x4, (s5, (x6, (s7, (s8, (s9, tt)))))))))) at
+
+  enters : ent 𝓤 (⋆ 𝓤 H A (Toks ∷ ‵ Owns ∷ [])) (⋆ 𝓤 H A (Extras (s7 .now) (s8 .now) (s9 .now)))
+  enters =
+      qed W (Toks ∷ ‵ Owns ∷ []) ∵
+      move ! (1 ∷ []) $ fsplit ! $ drop ! $ fsplit ! $ move ! (1 ∷ []) $ fsplit ! $ move ! (1 ∷ []) $ fsplit ! $ move ! (1 ∷ []) $ fsplit ! $ drop ! $ fsplit ! $ move ! (1 ∷ []) $ fsplit ! $ drop ! $ fsplit ! $ fsplit ! $ drop ! $ fsplit ! $ move ! (2 ∷ []) $ fsplit ! $ fsplit ! $ drop ! $ fsplit ! $ move ! (2 ∷ []) $ fsplit ! $ fsplit ! $ drop ! $ fsplit ! $ move ! (2 ∷ []) $ drop ! $ move ! (10 ∷ []) $ split ! $ move ! (1 ∷ []) $ split ! $ move ! (1 ∷ []) $ split ! $ move ! (1 ∷ []) $ split ! $ move ! (1 ∷ []) $ split ! $ move ! (1 ∷ []) $ split ! $ move ! (1 ∷ []) $ split ! $ move ! (1 ∷ []) $ drop ! $
+      keep ! (6 ∷ 5 ∷ 4 ∷ 3 ∷ 2 ∷ 1 ∷ 0 ∷ 16 ∷ 15 ∷ 14 ∷ 13 ∷ 11 ∷ 12 ∷ 9 ∷ 10 ∷ 7 ∷ 8 ∷ []) $ done !
 
   -- what the reads have in common, and the outputs as they were
   abbrev common : Setting
@@ -416,21 +429,18 @@ module _ {M : Type 1} (𝓤 : URA M) (H : Heap 𝓤) (A : Atoms 𝓤) (W : Given
           unit-typed : (w : Val) → w ∷ [] ≡ vunit ∷ [] → Holds (hasTy tyUnit w) × WT w
           unit-typed w is = subst (λ (z : Val). Holds (hasTy tyUnit z) × WT z) (sym (ap only is)) (tt, tt)
 
-  walk : (𝓣 : Tables 𝓤 H) → Triple 𝓤 (𝓣 .C #simplex-methylation·any-part-leaves) (AnypartleavesC 𝓤 H A mem run) → Triple 𝓤 (𝓣 .C #simplex-methylation·begin-annotation) (BeginannotationC 𝓤 H A mem run) → Triple 𝓤 (𝓣 .C #simplex-methylation·reads-to-add) (ReadstoaddC 𝓤 H A mem run) → Triple 𝓤 (𝓣 .C #simplex-methylation·add-read) (AddreadC 𝓤 H A mem run) → Triple 𝓤 (𝓣 .C #simplex-methylation·simplex-answer) (SimplexanswerC 𝓤 H A mem run) → ent 𝓤 (onEntry 𝓤 H A me.signature (κ0, (κ1, (κ2, (κ3, (κ4, (κ5, (κ6, tt))))))) (q0, (q1, (q2, (q3, (q4, (q5, (q6, tt))))))) (x0, (s1, (s2, (s3, (x4, (s5, (x6, (s7, (s8, (s9, tt)))))))))) at) (WpFn 𝓤 H (𝓣 .C) (𝓣 .Λ) code.function (vint w64 x0 ∷ v1 ∷ v2 ∷ v3 ∷ EL.val ConversionPattern-row.the-type ConversionPattern-laws.the-laws x4 ∷ v5 ∷ vbool x6 ∷ v7 ∷ v8 ∷ v9 ∷ []) Post)
-  walk 𝓣 known-any-part-leaves known-begin-annotation known-reads-to-add known-add-read known-simplex-answer =
-      qed W ((‵ (flft κ0 q0) ⊛ (‵ (flft κ1 q1) ⊛ (‵ (flft κ2 q2) ⊛ (‵ (flft κ3 q3) ⊛ (‵ (flft κ4 q4) ⊛ (‵ (flft κ5 q5) ⊛ (‵ (flft κ6 q6) ⊛ ‵ ftrue))))))) ∷ ‵ (owns (usize ∷ ShrSlice (named 0) κ0 SourceRead-row.the-row ∷ ShrSlice (named 1) κ1 u8 ∷ ShrSlice (named 2) κ2 u8 ∷ ConversionPattern-row.the-row ∷ ShrSlice (named 3) κ3 u8 ∷ bool ∷ MutSlice (named 4) κ4 u8 ∷ MutSlice (named 5) κ5 u32 ∷ MutSlice (named 6) κ6 u32 ∷ []) (x0, (s1, (s2, (s3, (x4, (s5, (x6, (s7, (s8, (s9, tt)))))))))) at) ∷ []) ∵ enter ! (𝓣 .C) (𝓣 .Λ) code.function (vint w64 x0 ∷ v1 ∷ v2 ∷ v3 ∷ EL.val ConversionPattern-row.the-type ConversionPattern-laws.the-laws x4 ∷ v5 ∷ vbool x6 ∷ v7 ∷ v8 ∷ v9 ∷ []) _ $
+  walk : (𝓣 : Tables 𝓤 H) → Triple 𝓤 (𝓣 .C #source-reads·list-leaves) (ListleavesC 𝓤 H A mem run) → Triple 𝓤 (𝓣 .C #simplex-methylation·begin-annotation) (BeginannotationC 𝓤 H A mem run) → Triple 𝓤 (𝓣 .C #simplex-methylation·reads-to-add) (ReadstoaddC 𝓤 H A mem run) → Triple 𝓤 (𝓣 .C #simplex-methylation·add-read) (AddreadC 𝓤 H A mem run) → Triple 𝓤 (𝓣 .C #simplex-methylation·simplex-answer) (SimplexanswerC 𝓤 H A mem run) → ent 𝓤 (onEntry 𝓤 H A me.signature (κ0, (κ1, (κ2, (κ3, (κ4, (κ5, (κ6, tt))))))) (q0, (q1, (q2, (q3, (q4, (q5, (q6, tt))))))) (x0, (s1, (s2, (s3, (x4, (s5, (x6, (s7, (s8, (s9, tt)))))))))) at) (WpFn 𝓤 H (𝓣 .C) (𝓣 .Λ) code.function (vint w64 x0 ∷ v1 ∷ v2 ∷ v3 ∷ EL.val ConversionPattern-row.the-type ConversionPattern-laws.the-laws x4 ∷ v5 ∷ vbool x6 ∷ v7 ∷ v8 ∷ v9 ∷ []) Post)
+  walk 𝓣 known-list-leaves known-begin-annotation known-reads-to-add known-add-read known-simplex-answer =
+      qed W (Toks ∷ ‵ Owns ∷ []) ∵ cut (Toks ∷ ‵ Owns ∷ []) (Extras (s7 .now) (s8 .now) (s9 .now)) [] enters $ enter ! (𝓣 .C) (𝓣 .Λ) code.function (vint w64 x0 ∷ v1 ∷ v2 ∷ v3 ∷ EL.val ConversionPattern-row.the-type ConversionPattern-laws.the-laws x4 ∷ v5 ∷ vbool x6 ∷ v7 ∷ v8 ∷ v9 ∷ []) _ $
       alloc1 ! (λ l₀. alloc1 ! (λ l₁. alloc1 ! (λ l₂. alloc1 ! (λ l₃. alloc1 ! (λ l₄. alloc1 ! (λ l₅. alloc1 ! (λ l₆. alloc1 ! (λ l₇. alloc1 ! (λ l₈. alloc1 ! (λ l₉. alloc1 ! (λ l₁₀. alloc1 ! (λ l₁₁. alloc1 ! (λ l₁₂. alloc1 ! (λ l₁₃. alloc1 ! (λ l₁₄. alloc1 ! (λ l₁₅. alloc1 ! (λ l₁₆. alloc1 ! (λ l₁₇. alloc1 ! (λ l₁₈. alloc1 ! (λ l₁₉. alloc1 ! (λ l₂₀. alloc1 ! (λ l₂₁. alloc1 ! (λ l₂₂. alloc1 ! (λ l₂₃. alloc1 ! (λ l₂₄. alloc1 ! (λ l₂₅. alloc1 ! (λ l₂₆. alloc1 ! (λ l₂₇. alloc1 ! (λ l₂₈. alloc1 ! (λ l₂₉. alloc1 ! (λ l₃₀. alloc1 ! (λ l₃₁. alloc0 ! $ params1 ! $
       pass1 ! (init ! 60 refl (tt, record { fits = g0 })) $ pass1 ! (init ! 58 refl (tt, (tt, (record { fits = g1 .0 }, tt)))) $ pass1 ! (init ! 56 refl (tt, (tt, (record { fits = g2 .0 }, tt)))) $ pass1 ! (init ! 54 refl (tt, (tt, (record { fits = g3 .0 }, tt)))) $ pass1 ! (init ! 52 refl (EL.lawful ConversionPattern-row.the-type ConversionPattern-laws.the-laws 𝓤 H A W tt .typed x4 _ g4 .0)) $ pass1 ! (init ! 50 refl (tt, (tt, (record { fits = g5 .0 }, tt)))) $ pass1 ! (init ! 48 refl (tt, tt)) $ pass1 ! (init ! 46 refl (tt, (tt, (record { fits = g7 .0 }, tt)))) $ pass1 ! (init ! 44 refl (tt, (tt, (record { fits = g8 .0 }, tt)))) $ pass1 ! (init ! 42 refl (tt, (tt, (record { fits = g9 .0 }, tt)))) $ pass0 ! $
-      -- [the locals (64 entries), local k at 2 · (31 − k); the tokens; what the parameters own]
-      move ! (65 ∷ []) $ fsplit ! $ drop ! $ fsplit ! $ move ! (1 ∷ []) $ fsplit ! $ move ! (1 ∷ []) $ fsplit ! $ move ! (1 ∷ []) $ fsplit ! $ drop ! $ fsplit ! $ move ! (1 ∷ []) $ fsplit ! $ drop ! $ fsplit ! $ fsplit ! $ drop ! $ fsplit ! $ move ! (2 ∷ []) $ fsplit ! $ fsplit ! $ drop ! $ fsplit ! $ move ! (2 ∷ []) $ fsplit ! $ fsplit ! $ drop ! $ fsplit ! $ move ! (2 ∷ []) $ drop ! $ move ! (74 ∷ []) $ split ! $ move ! (1 ∷ []) $ split ! $ move ! (1 ∷ []) $ split ! $ move ! (1 ∷ []) $ split ! $ move ! (1 ∷ []) $ split ! $ move ! (1 ∷ []) $ split ! $ move ! (1 ∷ []) $ split ! $ move ! (1 ∷ []) $ drop ! $
-      keep ! (span 17 64 (6 ∷ 5 ∷ 4 ∷ 3 ∷ 2 ∷ 1 ∷ 0 ∷ 16 ∷ 15 ∷ 14 ∷ 13 ∷ 11 ∷ 12 ∷ 9 ∷ 10 ∷ 7 ∷ 8 ∷ [])) $
-      -- [the locals; Extras (s7 .now) (s8 .now) (s9 .now)]
+      -- [the locals (64 entries), local k at 2 · (31 − k); Extras (s7 .now) (s8 .now) (s9 .now)]
       assigns ! (of-opd ! (load ! (from ! (fld ! refl (stop !))) (look-in ! 56 (sub ! 1 refl (whole !))))) (from ! (stop !)) (init ! 30 refl (tt, record { fits = g2 .0 })) $  -- _16 = _3.1
-      -- any_part_leaves: of what reads owns a copy goes to the callee, with its token
+      -- list_leaves: of what reads owns a copy goes to the callee, with its token
       move ! (71 ∷ []) $ dups ! κ0 SourceRead-row.the-row s1 (v1 ∷ []) $ nothing ! $ move ! (67 ∷ 0 ∷ []) $ join ! $
-      group ! 2 $ use1 W (raw (AnypartleavesC 𝓤 H A mem run .pre (any-part-leaves-to 𝓤 H A W mem run κ0 q0 s1 size (g2 .0)))) (any-part-leaves-asked 𝓤 H A W mem run κ0 q0 s1 size (g2 .0)) $
-      calls-told ! (fmOf 𝓤 H (W .laws) 𝓣) any-part-leaves.ended (any-part-leaves.clauses 𝓤 H A mem run) known-any-part-leaves (any-part-leaves-to 𝓤 H A W mem run κ0 q0 s1 size (g2 .0)) (λ leaving. leaving ≡ anyLeaves size ys) (λ leaving e. id⊢ 𝓤 _)
-      (and-then ! (load ! (from ! (stop !)) (look ! 60 refl)) (and-then ! (load ! (from ! (stop !)) (look ! 32 refl)) (no-more !))) (λ leaving w e is.
+      group ! 2 $ use1 W (raw (ListleavesC 𝓤 H A mem run .pre (list-leaves-to 𝓤 H A W mem run κ0 q0 s1 size (g2 .0)))) (list-leaves-asked 𝓤 H A W mem run κ0 q0 s1 size (g2 .0)) $
+      calls-told ! (fmOf 𝓤 H (W .laws) 𝓣) list-leaves.ended (list-leaves.clauses 𝓤 H A mem run) known-list-leaves (list-leaves-to 𝓤 H A W mem run κ0 q0 s1 size (g2 .0)) (λ leaving. leaving ≡ anyLeaves size ys) (λ leaving e. id⊢ 𝓤 _)
+      (and-then ! (true-lit !) (and-then ! (load ! (from ! (stop !)) (look ! 60 refl)) (and-then ! (load ! (from ! (stop !)) (look ! 32 refl)) (no-more !)))) (λ leaving w e is.
       land ! (from ! (stop !)) (init ! 42 refl (bool-lawful 𝓤 H A W .typed leaving _ is .0)) $ rewrite ! 42 (λ (z : Val). ‵ (fat fullShare tyBool l₁₁ 0 z)) (ap only is) refl $
       use1 W (‵ (flft κ0 q0) ⊛ ‵ ftrue) (id⊢ 𝓤 _) $ split ! $ keep ! (span 3 64 (0 ∷ 67 ∷ 68 ∷ 69 ∷ 70 ∷ 71 ∷ 72 ∷ 2 ∷ 73 ∷ 74 ∷ 75 ∷ 76 ∷ 77 ∷ 78 ∷ 79 ∷ 80 ∷ 81 ∷ [])) $
       -- [the locals; Extras]: the three slices that are passed
@@ -463,12 +473,12 @@ module _ {M : Type 1} (𝓤 : URA M) (H : Heap 𝓤) (A : Atoms 𝓤) (W : Given
       facts-of e begun m = record { leaves = e; refused = begun .answered; marks = begun .left .marks; many-are = m }
 
 module _ {M : Type 1} (𝓤 : URA M) (H : Heap 𝓤) (A : Atoms 𝓤) (W : Given 𝓤 H A) (mem : Memory → SProp 𝓤) (run : Routine → Fun 𝓤) where
-  walks : (𝓣 : Tables 𝓤 H) → Triple 𝓤 (𝓣 .C #simplex-methylation·any-part-leaves) (AnypartleavesC 𝓤 H A mem run) → Triple 𝓤 (𝓣 .C #simplex-methylation·begin-annotation) (BeginannotationC 𝓤 H A mem run) → Triple 𝓤 (𝓣 .C #simplex-methylation·reads-to-add) (ReadstoaddC 𝓤 H A mem run) → Triple 𝓤 (𝓣 .C #simplex-methylation·add-read) (AddreadC 𝓤 H A mem run) → Triple 𝓤 (𝓣 .C #simplex-methylation·simplex-answer) (SimplexanswerC 𝓤 H A mem run) → Walks 𝓤 H A me.ended stayed (WpFn 𝓤 H (𝓣 .C) (𝓣 .Λ) code.function) (me.clauses 𝓤 H A mem run)
-  walks 𝓣 known-any-part-leaves known-begin-annotation known-reads-to-add known-add-read known-simplex-answer = walked 𝓤 H A me.ended stayed (me.clauses 𝓤 H A mem run) (WpFn 𝓤 H (𝓣 .C) (𝓣 .Λ) code.function) (λ κs. (uint-vals w64, (slice-vals, (slice-vals, (slice-vals, (EL.vals ConversionPattern-row.the-type ConversionPattern-laws.the-laws, (slice-vals, (bool-vals, (slice-vals, (slice-vals, (slice-vals, tt))))))))))) (λ κs. (uint-tells w64, (shr-slice-tells (named 0) (κs .0) SourceRead-row.the-row, (shr-slice-tells (named 1) (κs .1 .0) u8, (shr-slice-tells (named 2) (κs .1 .1 .0) u8, (EL.tells ConversionPattern-row.the-type ConversionPattern-laws.the-laws, (shr-slice-tells (named 3) (κs .1 .1 .1 .0) u8, (bool-tells, (mut-slice-tells (named 4) (κs .1 .1 .1 .1 .0) u8, (mut-slice-tells (named 5) (κs .1 .1 .1 .1 .1 .0) u32, (mut-slice-tells (named 6) (κs .1 .1 .1 .1 .1 .1 .0) u32, tt)))))))))))
-      (λ κs qs bounds a g are. via 𝓤 _ (fst∗ 𝓤 _ (emp 𝓤)) (walk 𝓤 H A W mem run (κs .0) (κs .1 .0) (κs .1 .1 .0) (κs .1 .1 .1 .0) (κs .1 .1 .1 .1 .0) (κs .1 .1 .1 .1 .1 .0) (κs .1 .1 .1 .1 .1 .1 .0) (qs .0) (qs .1 .0) (qs .1 .1 .0) (qs .1 .1 .1 .0) (qs .1 .1 .1 .1 .0) (qs .1 .1 .1 .1 .1 .0) (qs .1 .1 .1 .1 .1 .1 .0) (a .0) (a .1 .0) (a .1 .1 .0) (a .1 .1 .1 .0) (a .1 .1 .1 .1 .0) (a .1 .1 .1 .1 .1 .0) (a .1 .1 .1 .1 .1 .1 .0) (a .1 .1 .1 .1 .1 .1 .1 .0) (a .1 .1 .1 .1 .1 .1 .1 .1 .0) (a .1 .1 .1 .1 .1 .1 .1 .1 .1 .0) (are .0 .1) (are .1 .0 .0 .1) (are .1 .1 .0 .0 .1) (are .1 .1 .1 .0 .0 .1) (are .1 .1 .1 .1 .0) (are .1 .1 .1 .1 .1 .0 .0 .1) (are .1 .1 .1 .1 .1 .1 .1 .0 .0 .1) (are .1 .1 .1 .1 .1 .1 .1 .1 .0 .0 .1) (are .1 .1 .1 .1 .1 .1 .1 .1 .1 .0 .0 .1) 𝓣 known-any-part-leaves known-begin-annotation known-reads-to-add known-add-read known-simplex-answer))
+  walks : (𝓣 : Tables 𝓤 H) → Triple 𝓤 (𝓣 .C #source-reads·list-leaves) (ListleavesC 𝓤 H A mem run) → Triple 𝓤 (𝓣 .C #simplex-methylation·begin-annotation) (BeginannotationC 𝓤 H A mem run) → Triple 𝓤 (𝓣 .C #simplex-methylation·reads-to-add) (ReadstoaddC 𝓤 H A mem run) → Triple 𝓤 (𝓣 .C #simplex-methylation·add-read) (AddreadC 𝓤 H A mem run) → Triple 𝓤 (𝓣 .C #simplex-methylation·simplex-answer) (SimplexanswerC 𝓤 H A mem run) → Walks 𝓤 H A me.ended stayed (WpFn 𝓤 H (𝓣 .C) (𝓣 .Λ) code.function) (me.clauses 𝓤 H A mem run)
+  walks 𝓣 known-list-leaves known-begin-annotation known-reads-to-add known-add-read known-simplex-answer = walked 𝓤 H A me.ended stayed (me.clauses 𝓤 H A mem run) (WpFn 𝓤 H (𝓣 .C) (𝓣 .Λ) code.function) (λ κs. (uint-vals w64, (slice-vals, (slice-vals, (slice-vals, (EL.vals ConversionPattern-row.the-type ConversionPattern-laws.the-laws, (slice-vals, (bool-vals, (slice-vals, (slice-vals, (slice-vals, tt))))))))))) (λ κs. (uint-tells w64, (shr-slice-tells (named 0) (κs .0) SourceRead-row.the-row, (shr-slice-tells (named 1) (κs .1 .0) u8, (shr-slice-tells (named 2) (κs .1 .1 .0) u8, (EL.tells ConversionPattern-row.the-type ConversionPattern-laws.the-laws, (shr-slice-tells (named 3) (κs .1 .1 .1 .0) u8, (bool-tells, (mut-slice-tells (named 4) (κs .1 .1 .1 .1 .0) u8, (mut-slice-tells (named 5) (κs .1 .1 .1 .1 .1 .0) u32, (mut-slice-tells (named 6) (κs .1 .1 .1 .1 .1 .1 .0) u32, tt)))))))))))
+      (λ κs qs bounds a g are. via 𝓤 _ (fst∗ 𝓤 _ (emp 𝓤)) (walk 𝓤 H A W mem run (κs .0) (κs .1 .0) (κs .1 .1 .0) (κs .1 .1 .1 .0) (κs .1 .1 .1 .1 .0) (κs .1 .1 .1 .1 .1 .0) (κs .1 .1 .1 .1 .1 .1 .0) (qs .0) (qs .1 .0) (qs .1 .1 .0) (qs .1 .1 .1 .0) (qs .1 .1 .1 .1 .0) (qs .1 .1 .1 .1 .1 .0) (qs .1 .1 .1 .1 .1 .1 .0) (a .0) (a .1 .0) (a .1 .1 .0) (a .1 .1 .1 .0) (a .1 .1 .1 .1 .0) (a .1 .1 .1 .1 .1 .0) (a .1 .1 .1 .1 .1 .1 .0) (a .1 .1 .1 .1 .1 .1 .1 .0) (a .1 .1 .1 .1 .1 .1 .1 .1 .0) (a .1 .1 .1 .1 .1 .1 .1 .1 .1 .0) (are .0 .1) (are .1 .0 .0 .1) (are .1 .1 .0 .0 .1) (are .1 .1 .1 .0 .0 .1) (are .1 .1 .1 .1 .0) (are .1 .1 .1 .1 .1 .0 .0 .1) (are .1 .1 .1 .1 .1 .1 .1 .0 .0 .1) (are .1 .1 .1 .1 .1 .1 .1 .1 .0 .0 .1) (are .1 .1 .1 .1 .1 .1 .1 .1 .1 .0 .0 .1) 𝓣 known-list-leaves known-begin-annotation known-reads-to-add known-add-read known-simplex-answer))
 
-meets : {M : Type 1} (𝓤 : URA M) (H : Heap 𝓤) (A : Atoms 𝓤) (W : Given 𝓤 H A) (mem : Memory → SProp 𝓤) (run : Routine → Fun 𝓤) (𝓣 : Tables 𝓤 H) → Triple 𝓤 (𝓣 .C #simplex-methylation·any-part-leaves) (AnypartleavesC 𝓤 H A mem run) → Triple 𝓤 (𝓣 .C #simplex-methylation·begin-annotation) (BeginannotationC 𝓤 H A mem run) → Triple 𝓤 (𝓣 .C #simplex-methylation·reads-to-add) (ReadstoaddC 𝓤 H A mem run) → Triple 𝓤 (𝓣 .C #simplex-methylation·add-read) (AddreadC 𝓤 H A mem run) → Triple 𝓤 (𝓣 .C #simplex-methylation·simplex-answer) (SimplexanswerC 𝓤 H A mem run) → Meets 𝓤 H A me.signature (WpFn 𝓤 H (𝓣 .C) (𝓣 .Λ) code.function) (me.spec 𝓤 H A mem run)
-meets 𝓤 H A W mem run 𝓣 known-any-part-leaves known-begin-annotation known-reads-to-add known-add-read known-simplex-answer = walk-meets 𝓤 H A me.ended stayed W (goes-none 𝓤 H A W 7 (λ _. usize) yes (λ κs x f. refl), (goes-none-slice 𝓤 H A W 7 (0 ∷ []) tt (plain (λ _. SourceRead-row.the-row)) yes, (goes-none-slice 𝓤 H A W 7 (1 ∷ []) tt (plain (λ _. u8)) yes, (goes-none-slice 𝓤 H A W 7 (2 ∷ []) tt (plain (λ _. u8)) yes, (goes-none 𝓤 H A W 7 (λ _. ConversionPattern-row.the-row) yes (λ κs x f. refl), (goes-none-slice 𝓤 H A W 7 (3 ∷ []) tt (plain (λ _. u8)) yes, (goes-none 𝓤 H A W 7 (λ _. bool) yes (λ κs x f. refl), (goes-slice 𝓤 H A W 7 4 tt (plain (λ _. u8)), (goes-slice 𝓤 H A W 7 5 tt (plain (λ _. u32)), (goes-slice 𝓤 H A W 7 6 tt (plain (λ _. u32)), tt)))))))))) (me.clauses 𝓤 H A mem run) (WpFn 𝓤 H (𝓣 .C) (𝓣 .Λ) code.function) (WpFn-mono 𝓤 H (W .laws) 𝓣 code.function) (walks 𝓤 H A W mem run 𝓣 known-any-part-leaves known-begin-annotation known-reads-to-add known-add-read known-simplex-answer)
+meets : {M : Type 1} (𝓤 : URA M) (H : Heap 𝓤) (A : Atoms 𝓤) (W : Given 𝓤 H A) (mem : Memory → SProp 𝓤) (run : Routine → Fun 𝓤) (𝓣 : Tables 𝓤 H) → Triple 𝓤 (𝓣 .C #source-reads·list-leaves) (ListleavesC 𝓤 H A mem run) → Triple 𝓤 (𝓣 .C #simplex-methylation·begin-annotation) (BeginannotationC 𝓤 H A mem run) → Triple 𝓤 (𝓣 .C #simplex-methylation·reads-to-add) (ReadstoaddC 𝓤 H A mem run) → Triple 𝓤 (𝓣 .C #simplex-methylation·add-read) (AddreadC 𝓤 H A mem run) → Triple 𝓤 (𝓣 .C #simplex-methylation·simplex-answer) (SimplexanswerC 𝓤 H A mem run) → Meets 𝓤 H A me.signature (WpFn 𝓤 H (𝓣 .C) (𝓣 .Λ) code.function) (me.spec 𝓤 H A mem run)
+meets 𝓤 H A W mem run 𝓣 known-list-leaves known-begin-annotation known-reads-to-add known-add-read known-simplex-answer = walk-meets 𝓤 H A me.ended stayed W (goes-none 𝓤 H A W 7 (λ _. usize) yes (λ κs x f. refl), (goes-none-slice 𝓤 H A W 7 (0 ∷ []) tt (plain (λ _. SourceRead-row.the-row)) yes, (goes-none-slice 𝓤 H A W 7 (1 ∷ []) tt (plain (λ _. u8)) yes, (goes-none-slice 𝓤 H A W 7 (2 ∷ []) tt (plain (λ _. u8)) yes, (goes-none 𝓤 H A W 7 (λ _. ConversionPattern-row.the-row) yes (λ κs x f. refl), (goes-none-slice 𝓤 H A W 7 (3 ∷ []) tt (plain (λ _. u8)) yes, (goes-none 𝓤 H A W 7 (λ _. bool) yes (λ κs x f. refl), (goes-slice 𝓤 H A W 7 4 tt (plain (λ _. u8)), (goes-slice 𝓤 H A W 7 5 tt (plain (λ _. u32)), (goes-slice 𝓤 H A W 7 6 tt (plain (λ _. u32)), tt)))))))))) (me.clauses 𝓤 H A mem run) (WpFn 𝓤 H (𝓣 .C) (𝓣 .Λ) code.function) (WpFn-mono 𝓤 H (W .laws) 𝓣 code.function) (walks 𝓤 H A W mem run 𝓣 known-list-leaves known-begin-annotation known-reads-to-add known-add-read known-simplex-answer)
 
 pub annotate-simplex-methylation-spec : {M : Type 1} → stated.statement M
 unfolding code.routine tablesOf
@@ -476,7 +486,7 @@ annotate-simplex-methylation-spec 𝓤 H 𝓜 𝓖 𝓡 =
     entered 𝓤 H (tripleOf 𝓤 H (𝓖 .A) me.signature (me.spec 𝓤 H (𝓖 .A) (𝓜 .mem) (𝓡 .run)))
     (tables 𝓤 H 𝓜 𝓡 code.env .C) (tables 𝓤 H 𝓜 𝓡 code.env .Λ) #me code.function (code.unfolded 𝓤 H 𝓜 𝓡)
     (meets 𝓤 H (𝓖 .A) (givenOf 𝓤 H 𝓜 𝓖) (𝓜 .mem) (𝓡 .run) (tablesOf 𝓤 H 𝓜 (tables 𝓤 H 𝓜 𝓡 code.env))
-    (cited 𝓤 H (AnypartleavesC 𝓤 H (𝓖 .A) (𝓜 .mem) (𝓡 .run)) 𝓜 𝓡 code.env #simplex-methylation·any-part-leaves any-part-leaves-def.routine code.calls-simplex-methylation·any-part-leaves (any-part-leaves-thm.met 𝓤 H 𝓜 𝓖 𝓡))
+    (cited 𝓤 H (ListleavesC 𝓤 H (𝓖 .A) (𝓜 .mem) (𝓡 .run)) 𝓜 𝓡 code.env #source-reads·list-leaves list-leaves-def.routine code.calls-source-reads·list-leaves (list-leaves-thm.met 𝓤 H 𝓜 𝓖 𝓡))
     (cited 𝓤 H (BeginannotationC 𝓤 H (𝓖 .A) (𝓜 .mem) (𝓡 .run)) 𝓜 𝓡 code.env #simplex-methylation·begin-annotation begin-annotation-def.routine code.calls-simplex-methylation·begin-annotation (begin-annotation-thm.met 𝓤 H 𝓜 𝓖 𝓡))
     (cited 𝓤 H (ReadstoaddC 𝓤 H (𝓖 .A) (𝓜 .mem) (𝓡 .run)) 𝓜 𝓡 code.env #simplex-methylation·reads-to-add reads-to-add-def.routine code.calls-simplex-methylation·reads-to-add (reads-to-add-thm.met 𝓤 H 𝓜 𝓖 𝓡))
     (cited 𝓤 H (AddreadC 𝓤 H (𝓖 .A) (𝓜 .mem) (𝓡 .run)) 𝓜 𝓡 code.env #simplex-methylation·add-read add-read-def.routine code.calls-simplex-methylation·add-read (add-read-thm.met 𝓤 H 𝓜 𝓖 𝓡))

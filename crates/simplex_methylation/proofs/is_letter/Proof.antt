@@ -5,7 +5,7 @@ use Rattle.simplex_methylation.proofs.is_letter.Tie as tie
 
 returns : tie.Need-returns
 unfolding isLetter
-returns c = cc
+returns c = rw (c .to-ascii-uppercase .ensures)
 
 pub is-letter-spec : {M : Type 1} → statement M
 is-letter-spec = tie.close (tie.spec (λ c κs. tt) returns)
