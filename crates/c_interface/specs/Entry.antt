@@ -2,18 +2,15 @@
 -- there or not and for an answer.
 use Prim.Native.Nat.{ℕ}
 use mathlib.Core.Path.{_≡_}
-use mathlib.Core.Bool.{Bool, cond, not, _&&_}
+use mathlib.Core.Bool.{Bool, not, _&&_}
 use mathlib.Core.List.{List, _∷_}
 use lib.Dec.{eqb, ltb}
 use Rattle.lists.specs.Output.{answer}
 use Rattle.refusals.specs.Refusal.{_if_, refusal}
-use Rattle.methylation.specs.declared.Annotation.{Annotation}
-use Rattle.methylation.specs.declared.Annotation.the-variants.{Absent, Of}
-use Rattle.methylation.specs.declared.ConversionPattern.the-variants.{CToT, GToA}
 use Rattle.duplex_kind.specs.Kind.{kindOf}
 use Rattle.duplex_kind.specs.declared.DuplexConsensus.{DuplexConsensus}
 use Rattle.duplex_kind.specs.declared.DuplexConsensus.the-variants.{Refused, NoRecord, Ab, Ba, Both}
-use Rattle.strand_bytes.specs.Strand.{StrandBytes, strandBytes, strandOf}
+use Rattle.strand_bytes.specs.Strand.{StrandBytes, annotationOf, strandBytes, strandOf}
 use Rattle.duplex_bytes.specs.Bytes.{seen, bytesFaults, bytesRecord}
 use Rattle.record_bytes.specs.Outputs.{RecordBytes, asBytes, asArrays, LeavesBytes}
 use Rattle.c_interface.specs.declared.DuplexRecord.{DuplexRecord}
@@ -26,10 +23,7 @@ yes number = not (eqb number 0)
 abbrev pub told : ℕ → ℕ → Bool
 told present annotated = yes present && yes annotated
 
--- 0 is C to T, 1 G to A; a pattern above 1 is refused.
-unfoldable pub annotationOf : Bool → ℕ → Annotation
-annotationOf annotated pattern = cond annotated (Of (cond (eqb pattern 0) CToT GToA)) Absent
-
+-- A pattern above 1 is refused.
 abbrev pub wrongPattern : Bool → ℕ → Bool
 wrongPattern annotated pattern = annotated && ltb 1 pattern
 

@@ -1,18 +1,17 @@
 // Entry points for C programs: numbers and byte slices, and answers as numbers. An array of wider numbers is passed as its bytes,
-// low byte first. This crate owns the numbers for what is there or not, for a pattern and for a kind; the calls are metrics_bytes's
-// and consensus_bytes's. Uses refusals, methylation, duplex_kind, metrics_bytes and consensus_bytes.
+// low byte first. This crate owns the numbers for what is there or not and for a kind; the calls are metrics_bytes's and
+// consensus_bytes's. Uses refusals, strand_bytes, duplex_kind, metrics_bytes and consensus_bytes.
 ghost use mathlib.Core.Path.{_≡_};
 ghost use mathlib.Core.Bool.{_||_};
 ghost use Rattle.duplex_metrics.specs.Metrics.{input};
 ghost use Rattle.record_bytes.specs.Outputs.{recordBytes};
 ghost use Rattle.metrics_bytes.specs.Bytes.{seen, MetricsEntry};
-ghost use Rattle.c_interface.specs.Entry.{yes, told, annotationOf, wrongPattern, strandGiven, recordFor, ConsensusEntry};
+ghost use Rattle.c_interface.specs.Entry.{yes, told, wrongPattern, strandGiven, recordFor, ConsensusEntry};
 use consensus_bytes::duplex_consensus_bytes;
 use duplex_kind::DuplexConsensus;
-use methylation::Annotation;
-use methylation::ConversionPattern;
 use metrics_bytes::metrics_of_bytes;
 use refusals::BROKEN;
+use strand_bytes::annotation_of;
 
 // What a duplex record is: `refused` is the refusal's number, 0 for none; kind 0 is no record, 1 strand A alone, 2 strand B alone,
 // 3 both.
@@ -21,18 +20,6 @@ pub struct DuplexRecord {
     pub refused: u8,
     pub kind: u8,
     pub positions: usize,
-}
-
-fn annotation_of(annotated: bool, pattern: u8) -> Annotation
-    ensures { λ r. ⌜ r ≡ annotationOf annotated pattern ⌝ }
-{
-    if annotated {
-        if pattern == 0 {
-            return Annotation::Of(ConversionPattern::CToT);
-        }
-        return Annotation::Of(ConversionPattern::GToA);
-    }
-    Annotation::Absent
 }
 
 // Row 13's condition for a pattern.

@@ -37,8 +37,7 @@ use Rattle.duplex_kind.proofs.Kind.{Passes, taken, is-ab, is-ba}
 use Rattle.duplex_record.specs.Record.{recordArrays, outputsShort, duplexFaults}
 use Rattle.read_run.specs.Run.{readsOf}
 use Rattle.strand_bytes.specs.Strand.{StrandBytes, strandOf}
-use Rattle.bytes_refusal.specs.Rows.{broken}
-use Rattle.duplex_bytes.specs.Bytes.{bytesFaults, bytesRefused, inputsRefused, bytesRecord, BytesAs}
+use Rattle.duplex_bytes.specs.Bytes.{broken, bytesFaults, bytesRefused, inputsRefused, bytesRecord, BytesAs}
 use Rattle.duplex_bytes.proofs.Ample.{zeros-ample, inputs-alone}
 use Rattle.record_bytes.specs.Outputs.{RecordBytes, asArrays, writtenOf, shortFor, outputsRefused, evidencePlaces, evidenceFronts, fronts, WrittenAs}
 use Rattle.record_bytes.specs.declared.Written.{Written}

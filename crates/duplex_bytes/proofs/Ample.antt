@@ -19,8 +19,7 @@ use Rattle.duplex_kind.specs.declared.DuplexConsensus.the-variants.{NoRecord, A
 use Rattle.duplex_record.specs.Record.{outputsShort, duplexFaults}
 use Rattle.read_run.specs.Run.{readsOf}
 use Rattle.strand_bytes.specs.Strand.{StrandBytes, strandOf}
-use Rattle.bytes_refusal.specs.Rows.{broken}
-use Rattle.duplex_bytes.specs.Bytes.{bytesFaults, bytesRefused, inputsRefused}
+use Rattle.duplex_bytes.specs.Bytes.{broken, bytesFaults, bytesRefused, inputsRefused}
 use Rattle.duplex_bytes.proofs.Few.{not-long}
 
 pub record AmpleEvidence (out : EvidenceArrays) : Type 0 where

@@ -1,12 +1,11 @@
--- What is promised of a call on bytes, by what was looked at and what the calls below answered.
---     same-seen       what is looked at, array by array
+-- What is promised of a call on bytes, by its test of their counts and what the calls below answered.
 --     turned-down     refused by row 13 or 7
---     passed-on       passed by them: what is promised of the numbers that were read
+--     passed-on       passed by them: the record of the numbers that were read, and the errors counted after it
 -- Assumes nothing.
-use mathlib.Core.Path.{_≡_, refl, ap, subst, _∙_}
+use mathlib.Core.Path.{_≡_, refl, sym, ap, subst, _∙_}
 use mathlib.Core.Bool.{Bool, true, false, cond, not, _&&_, _||_}
 use mathlib.Core.List.{List}
-use Prim.Native.Nat.{ℕ, _/_, _≤_}
+use Prim.Native.Nat.{ℕ}
 use native.Mathlib.Omega.{arith}
 use lib.ListN.{length}
 use Rattle.lists.specs.Output.{answer}
@@ -15,43 +14,120 @@ use Rattle.lists.proofs.Output.{answer-refused}
 use Rattle.refusals.specs.Refusal.{refusal}
 use Rattle.refusals.proofs.Refusal.{passed}
 use Rattle.refusals.proofs.Condition.{nor-where}
-use Rattle.methylation.specs.Methylation.{isAnnotated}
 use Rattle.methylation.specs.declared.Annotation.{Annotation}
+use Rattle.methylation.specs.declared.Annotation.the-variants.{Absent, Of}
 use Rattle.vanilla_caller.specs.Strand.{strandTooLong}
-use Rattle.vanilla_caller.specs.declared.Lengths.{Lengths}
 use Rattle.byte_numbers.specs.Bytes.{numberOf}
 use Rattle.byte_numbers.proofs.Groups.{length-by-group}
 use Rattle.evidence_bytes.specs.Evidence.{markIn, countIn}
 use Rattle.molecule_fields.specs.Widths.{isRun}
+use Rattle.duplex_molecule.specs.Molecule.{ctInput}
+use Rattle.source_reads.specs.Reads.{countedErrors}
+use Rattle.read_run.specs.Run.{readsOf}
 use Rattle.duplex_outputs.specs.Outputs.{RecordArrays}
 use Rattle.duplex_outputs.proofs.Outputs.{record-refused}
+use Rattle.duplex_strands.specs.Combine.{uncounted}
 use Rattle.duplex_kind.specs.Kind.{Strand, given, kindOf, long, givenFaults}
 use Rattle.duplex_kind.specs.declared.DuplexConsensus.{DuplexConsensus}
 use Rattle.duplex_kind.specs.declared.DuplexConsensus.the-variants.{Refused}
-use Rattle.duplex_record.specs.Record.{duplexFaults}
-use Rattle.duplex_run.specs.Run.{runFaults, runRefused, RunAs}
+use Rattle.duplex_record.specs.Record.{duplexFaults, duplexRefused, DuplexAs}
+use Rattle.duplex_consensus.specs.Consensus.{countedPositions}
+use Rattle.duplex_consensus.proofs.Made.{with-errors}
+use Rattle.duplex_run.specs.Run.{runErrors}
+use Rattle.duplex_run.proofs.Run.{made-as}
+use Rattle.strand_bytes.specs.Rows.{misfitIn, numbersIn, longIn, earlyFaults}
 use Rattle.strand_bytes.specs.Strand.{StrandBytes, strandBytes, strandOf, strandWithin, Narrow}
+use Rattle.strand_bytes.specs.declared.ByteCounts.{ByteCounts}
 use Rattle.strand_bytes.proofs.Strand.{narrow-whole}
-use Rattle.bytes_refusal.specs.Rows.{misfit, broken, numbersIn, longBytes, earlyFaults}
-use Rattle.duplex_bytes.specs.Bytes.{seen, bytesFaults, bytesRefused, BytesAs}
+use Rattle.duplex_bytes.specs.Bytes.{evident, seen, misfit, broken, bytesFaults, bytesRefused, BytesAs}
+use Rattle.duplex_bytes.proofs.Absent.{absent-first, absent-second}
 use Rattle.duplex_bytes.proofs.Few.{not-long}
 
-pub same-seen :
-    (present : Bool) (annotation : Annotation) (bases quals depths errors evidence : List ℕ) {b q d e v : List ℕ}
-    → b ≡ onlyIf present bases
-    → q ≡ onlyIf present quals
-    → d ≡ onlyIf present depths
-    → e ≡ onlyIf present errors
-    → v ≡ onlyIf (present && isAnnotated annotation) evidence
-    → strandBytes present annotation b q d e v ≡ seen (strandBytes present annotation bases quals depths errors evidence)
-same-seen present annotation bases quals depths errors evidence sb sq sd se sv = rw (sb, sq, sd, se, sv)
+abbrev byteCounts : StrandBytes → ByteCounts
+byteCounts s = record {
+  present = s .present;
+  annotation = s .annotation;
+  bases = length (s .bases);
+  quals = length (s .quals);
+  depths = length (s .depths);
+  errors = length (s .errors);
+  evidence = length (s .evidence);
+}
+
+-- What is read: of bases and qualities no more is looked at than how many there are.
+abbrev read : StrandBytes → StrandBytes
+read s = strandBytes (s .present) (s .annotation) (s .bases) (s .quals) (onlyIf (s .present) (s .depths)) (onlyIf (s .present) (s .errors)) (onlyIf (evident s) (s .evidence))
+
+-- The tests look at nothing of an absent strand, nor at evidence without an annotation.
+same-misfit : (present : Bool) (annotation : Annotation) (bases quals depths errors evidence : List ℕ) →
+    let s = strandBytes present annotation bases quals depths errors evidence in
+    misfitIn (byteCounts s) ≡ misfit (seen s)
+unfolding onlyIf
+same-misfit false annotation bases quals depths errors evidence = refl
+same-misfit true Absent bases quals depths errors evidence = refl
+same-misfit true (Of pattern) bases quals depths errors evidence = refl
+
+seen-long : (present : Bool) (annotation : Annotation) (bases quals depths errors evidence : List ℕ) →
+    let s = strandBytes present annotation bases quals depths errors evidence in
+    longIn (byteCounts s) ≡ longIn (byteCounts (seen s))
+unfolding onlyIf numbersIn strandTooLong
+seen-long false annotation bases quals depths errors evidence = refl
+seen-long true Absent bases quals depths errors evidence = refl
+seen-long true (Of pattern) bases quals depths errors evidence = refl
+
+abbrev longIs : Strand → Bool
+longIs s = long (given s)
 
 -- Row 7 counts the numbers that the bytes are.
-same-long : (s : StrandBytes) → long (given (strandOf s)) ≡ longBytes s
+of-numbers : (s : StrandBytes) → longIn (byteCounts s) ≡ longIs (strandOf s)
 unfolding strandOf numbersIn
-same-long s =
+of-numbers s =
     rw
     (length-by-group 2 numberOf (s .depths), length-by-group 2 numberOf (s .errors), length-by-group 9 markIn (s .evidence), length-by-group 9 (countIn 1) (s .evidence), length-by-group 9 (countIn 5) (s .evidence))
+
+same-long : (s : StrandBytes) → longIn (byteCounts s) ≡ longIs (strandOf (seen s))
+same-long s = seen-long (s .present) (s .annotation) (s .bases) (s .quals) (s .depths) (s .errors) (s .evidence) ∙ of-numbers (seen s)
+
+-- What is read of a strand that row 7 does not refuse is all of it.
+narrow : (present : Bool) (annotation : Annotation) (bases quals depths errors evidence : List ℕ) →
+    let s = strandBytes present annotation bases quals depths errors evidence in
+    longIn (byteCounts s) ≡ false → Narrow (read s)
+unfolding onlyIf numbersIn
+narrow false annotation bases quals depths errors evidence h = record { depths = omega arith; errors = omega arith; evidence = omega arith }
+narrow true Absent bases quals depths errors evidence h =
+    let all = not-long false _ h .0 in
+    record { depths = all .1 .1 .0; errors = all .1 .1 .1 .0; evidence = omega arith }
+narrow true (Of pattern) bases quals depths errors evidence h =
+    let (all, more) = not-long true _ h in
+    record { depths = all .1 .1 .0; errors = all .1 .1 .1 .0; evidence = more refl .0 }
+
+all-read : (s : StrandBytes) → longIn (byteCounts s) ≡ false → strandWithin 1024 (read s) ≡ strandOf (read s)
+all-read s h = narrow-whole (read s) (narrow (s .present) (s .annotation) (s .bases) (s .quals) (s .depths) (s .errors) (s .evidence) h)
+
+-- The bases and qualities of an absent strand do not count.
+module _ (listed : Bool) (run : List ℕ) (n : ℕ) (before now : RecordArrays) (r : DuplexConsensus) where
+  abbrev Made : Strand → Strand → Type 0
+  Made a b = DuplexAs a b listed n false (runErrors a b run) before now r
+
+  first-seen : (present : Bool) (annotation : Annotation) (bases quals depths errors evidence : List ℕ) (b : Strand) →
+      let s = strandBytes present annotation bases quals depths errors evidence in
+      Made (strandOf (read s)) b → Made (strandOf (seen s)) b
+  unfolding onlyIf strandOf
+  first-seen true annotation bases quals depths errors evidence b d = d
+  first-seen false annotation bases quals depths errors evidence b d = absent-first annotation _ _ b listed n _ _ before d
+
+  second-seen : (present : Bool) (annotation : Annotation) (bases quals depths errors evidence : List ℕ) (a : Strand) →
+      let s = strandBytes present annotation bases quals depths errors evidence in
+      Made a (strandOf (read s)) → Made a (strandOf (seen s))
+  unfolding onlyIf strandOf
+  second-seen true annotation bases quals depths errors evidence a d = d
+  second-seen false annotation bases quals depths errors evidence a d = absent-second annotation _ _ a listed n _ _ before d
+
+  all-seen : (a b : StrandBytes) → Made (strandOf (read a)) (strandOf (read b)) → Made (strandOf (seen a)) (strandOf (seen b))
+  all-seen a b d =
+      let at-a = first-seen (a .present) (a .annotation) (a .bases) (a .quals) (a .depths) (a .errors) (a .evidence) (strandOf (read b)) d in
+      let at-b = second-seen (b .present) (b .annotation) (b .bases) (b .quals) (b .depths) (b .errors) (b .evidence) (strandOf (seen a)) at-a in
+      at-b
 
 -- A refusal by one of the first two rows is one whatever comes after.
 abbrev two-rows : Bool → Bool → ℕ → ℕ
@@ -62,84 +138,56 @@ first-two true l rest h = refl
 first-two false true rest h = refl
 first-two false false rest h = absurd (h refl)
 
--- The lengths of what is looked at.
-abbrev looked : Bool → Bool → ℕ → ℕ → List ℕ → List ℕ → List ℕ → Lengths
-looked present annotated bases quals depths errors evidence = record {
-  bases = bases;
-  quals = quals;
-  depths = length (onlyIf present depths) / 2;
-  errors = length (onlyIf present errors) / 2;
-  evidence = record {
-    marks = length (onlyIf (present && annotated) evidence) / 9;
-    unconverted = length (onlyIf (present && annotated) evidence) / 9;
-    converted = length (onlyIf (present && annotated) evidence) / 9;
-  };
-}
+-- torn is what the code has of the run: whether a list is a broken one.
+module _ (a b : StrandBytes) (listed : Bool) (run : List ℕ) (before : RecordArrays) {n : ℕ} {torn : Bool} (t : torn ≡ (listed && not (isRun run))) (e : n ≡ refusal (earlyFaults (byteCounts a) (byteCounts b) torn)) where
+  abbrev refused : ℕ
+  refused = bytesRefused (seen a) (seen b) listed run before
 
-few :
-    (present annotated : Bool) (bases quals : ℕ) (depths errors evidence : List ℕ)
-    → (present && strandTooLong annotated (looked present annotated bases quals depths errors evidence)) ≡ false
-    → (length (onlyIf present depths) / 2 ≤ 1024) × (length (onlyIf present errors) / 2 ≤ 1024) × (length (onlyIf (present && annotated) evidence) / 9 ≤ 1024)
-unfolding onlyIf
-few false annotated bases quals depths errors evidence h = (omega arith, omega arith, omega arith)
-few true false bases quals depths errors evidence h =
-    let all = not-long false (looked true false bases quals depths errors evidence) h .0 in
-    (all .1 .1 .0, all .1 .1 .1 .0, omega arith)
-few true true bases quals depths errors evidence h =
-    let (all, more) = not-long true (looked true true bases quals depths errors evidence) h in
-    (all .1 .1 .0, all .1 .1 .1 .0, more refl .0)
+  abbrev kind : DuplexConsensus
+  kind = kindOf (strandOf (seen a)) (strandOf (seen b))
 
-narrow : (s : StrandBytes) → longBytes (seen s) ≡ false → Narrow (seen s)
-unfolding numbersIn
-narrow s h =
-    let (d, e, v) = few (s .present) (isAnnotated (s .annotation)) _ _ (s .depths) (s .errors) (s .evidence) h in
-    record { depths = d; errors = e; evidence = v }
+  same-broken : (misfitIn (byteCounts a) || (misfitIn (byteCounts b) || torn)) ≡ broken (seen a) (seen b) listed run
+  unfolding broken
+  same-broken =
+      let p = same-misfit (a .present) (a .annotation) (a .bases) (a .quals) (a .depths) (a .errors) (a .evidence) in
+      let q = same-misfit (b .present) (b .annotation) (b .bases) (b .quals) (b .depths) (b .errors) (b .evidence) in
+      ap (λ (x : Bool). x || (misfitIn (byteCounts b) || torn)) p
+      ∙ ap (λ (x : Bool). misfit (seen a) || (x || torn)) q
+      ∙ ap (λ (x : Bool). misfit (seen a) || (misfit (seen b) || x)) t
 
-module _ (listed : Bool) (run : List ℕ) (before : RecordArrays) where
-  module _ (a b : StrandBytes) where
-    abbrev early : ℕ
-    early = refusal (earlyFaults a b listed run)
+  same-early : (n ≡ 0 → ⊥) → n ≡ refused
+  unfolding earlyFaults bytesFaults duplexFaults givenFaults refusal
+  same-early h =
+      let long : (longIn (byteCounts a) || longIn (byteCounts b)) ≡ (longIs (strandOf (seen a)) || longIs (strandOf (seen b))) =
+      ap (λ (x : Bool). x || longIn (byteCounts b)) (same-long a) ∙ ap (λ (x : Bool). longIs (strandOf (seen a)) || x) (same-long b) in
+      let number = e ∙ ap (λ (x : Bool). two-rows x (longIn (byteCounts a) || longIn (byteCounts b)) 0) same-broken ∙ ap (λ (l : Bool). two-rows (broken (seen a) (seen b) listed run) l 0) long in
+      number ∙ first-two (broken (seen a) (seen b) listed run) (longIs (strandOf (seen a)) || longIs (strandOf (seen b))) _ (λ z. h (number ∙ z))
 
-    same-early : (early ≡ 0 → ⊥) → early ≡ bytesRefused a b listed run before
-    unfolding earlyFaults bytesFaults duplexFaults givenFaults refusal
-    same-early h = rw (same-long a, same-long b) (first-two (broken a b listed run) (longBytes a || longBytes b) _ h)
+  pub turned-down : (n ≡ 0 → ⊥) → BytesAs (seen a) (seen b) listed run before before (Refused n)
+  turned-down h = record { answered = answer-refused Refused kind (same-early h) h; outputs = record-refused (same-early h) h }
 
-    -- Where neither row is met, the run is not broken, and row 13 refuses neither call.
-    same-run : broken a b listed run ≡ false → runRefused (strandOf a) (strandOf b) listed run before ≡ bytesRefused a b listed run before
-    unfolding broken bytesFaults runFaults duplexFaults givenFaults refusal
-    same-run h =
-        let (fit-a, others) = nor-where (misfit a) true (misfit b || (listed && not (isRun run))) h in
-        let (fit-b, whole) = nor-where (misfit b) true (listed && not (isRun run)) (others refl) in
-        rw (fit-a, fit-b, whole refl)
+  -- Row 13 refuses neither call.
+  same-made : n ≡ 0 → duplexRefused (strandOf (seen a)) (strandOf (seen b)) listed (length (readsOf run)) false before ≡ refused
+  unfolding earlyFaults bytesFaults duplexFaults givenFaults refusal
+  same-made z =
+      let whole : broken (seen a) (seen b) listed run ≡ false = sym same-broken ∙ passed 13 (earlyFaults (byteCounts a) (byteCounts b) torn) tt tt e z .0 in
+      rw whole
 
-    refused-as : {n : ℕ} → n ≡ early → (n ≡ 0 → ⊥) → BytesAs a b listed run before before (Refused n)
-    refused-as e h =
-        let number = e ∙ same-early (λ z. h (e ∙ z)) in
-        record { answered = answer-refused Refused (kindOf (strandOf a) (strandOf b)) number h; outputs = record-refused number h }
-
-    run-as : {now : RecordArrays} {r : DuplexConsensus} → broken a b listed run ≡ false → RunAs (strandOf a) (strandOf b) listed run before now r → BytesAs a b listed run before now r
-    run-as h x =
-        let same = same-run h in
-        record { answered = x .answered ∙ ap (λ (n : ℕ). answer Refused n (kindOf (strandOf a) (strandOf b))) same; outputs = rw (← same) (x .outputs) }
-
-  -- A and B are what the code has of a and b.
-  pub turned-down : {A B a b : StrandBytes} {n : ℕ} → A ≡ a → B ≡ b → n ≡ refusal (earlyFaults A B listed run) → (n ≡ 0 → ⊥) → BytesAs a b listed run before before (Refused n)
-  turned-down {B = B} {a = a} {b = b} p q e h = refused-as a b (e ∙ ap (λ (s : StrandBytes). refusal (earlyFaults s B listed run)) p ∙ ap (λ (s : StrandBytes). refusal (earlyFaults a s listed run)) q) h
-
+  -- A and B are what was read.
   pub passed-on :
-      (a b : StrandBytes) {A B : StrandBytes} {now : RecordArrays} {n : ℕ} {r : DuplexConsensus}
-      → A ≡ seen a
-      → B ≡ seen b
-      → n ≡ refusal (earlyFaults A B listed run)
+      {A B : Strand} {made : RecordArrays} {us : List ℕ} {count : ℕ} {r : DuplexConsensus}
       → n ≡ 0
-      → RunAs (strandWithin 1024 A) (strandWithin 1024 B) listed run before now r
-      → BytesAs (seen a) (seen b) listed run before now r
+      → A ≡ strandWithin 1024 (read a)
+      → B ≡ strandWithin 1024 (read b)
+      → count ≡ cond listed (length (readsOf run)) 0
+      → DuplexAs A B listed count false uncounted before made r
+      → us ≡ countedErrors (readsOf run) run (ctInput (A .annotation) (B .annotation)) (countedPositions listed r) (A .arrays .bases) (A .arrays .quals) (B .arrays .bases) (B .arrays .quals) (made .errors)
+      → BytesAs (seen a) (seen b) listed run before (with-errors us made) r
   unfolding earlyFaults
-  passed-on a b {A = A} {B = B} {now = now} {r = r} p q e z x =
-      let number = e ∙ ap (λ (s : StrandBytes). refusal (earlyFaults s B listed run)) p ∙ ap (λ (s : StrandBytes). refusal (earlyFaults (seen a) s listed run)) q in
-      let faults = earlyFaults (seen a) (seen b) listed run in
-      let whole = passed 13 faults tt tt number z .0 in
-      let (few-a, few-b) = nor-where (longBytes (seen a)) true (longBytes (seen b)) (passed 7 faults tt tt number z .0) in
-      let same-a : strandWithin 1024 A ≡ strandOf (seen a) = ap (λ (s : StrandBytes). strandWithin 1024 s) p ∙ narrow-whole (seen a) (narrow a few-a) in
-      let same-b : strandWithin 1024 B ≡ strandOf (seen b) = ap (λ (s : StrandBytes). strandWithin 1024 s) q ∙ narrow-whole (seen b) (narrow b (few-b refl)) in
-      run-as (seen a) (seen b) whole (subst (λ (s : Strand). RunAs (strandOf (seen a)) s listed run before now r) same-b (subst (λ (s : Strand). RunAs s (strandWithin 1024 B) listed run before now r) same-a x))
+  passed-on {A} {B} {made} {us} {r = r} z p q c d u =
+      let (few-a, few-b) = nor-where (longIn (byteCounts a)) true (longIn (byteCounts b)) (passed 7 (earlyFaults (byteCounts a) (byteCounts b) torn) tt tt e z .0) in
+      let As = Made listed run (length (readsOf run)) before (with-errors us made) r in
+      let at-a = subst (λ (s : Strand). As s B) (p ∙ all-read a few-a) (made-as A B listed run before made c d u) in
+      let at-b = subst (λ (s : Strand). As (strandOf (read a)) s) (q ∙ all-read b (few-b refl)) at-a in
+      let x = all-seen listed run (length (readsOf run)) before (with-errors us made) r a b at-b in
+      record { answered = x .answered ∙ ap (λ (m : ℕ). answer Refused m kind) (same-made z); outputs = rw (← same-made z) (x .outputs) }

@@ -1,14 +1,17 @@
 -- The duplex record of strands given as bytes, document 01's forms for the viewer and for an encoded molecule: depths and errors
 -- two bytes a position, low byte first, evidence nine, and the reads as a run.
-use Prim.Native.Nat.{ℕ}
+use Prim.Native.Nat.{ℕ, _%_}
 use mathlib.Core.Path.{_≡_}
-use mathlib.Core.Bool.{Bool, false, _&&_}
+use mathlib.Core.Bool.{Bool, false, not, _&&_, _||_}
 use mathlib.Core.List.{List, _∷_}
+use lib.Dec.{eqb}
 use lib.ListN.{length}
 use Rattle.lists.specs.Output.{answer}
 use Rattle.lists.specs.Part.{onlyIf}
 use Rattle.refusals.specs.Refusal.{Fault, _if_, refusal}
 use Rattle.methylation.specs.Methylation.{isAnnotated}
+use Rattle.byte_numbers.specs.Bytes.{oddCount}
+use Rattle.molecule_fields.specs.Widths.{isRun}
 use Rattle.read_run.specs.Run.{readsOf}
 use Rattle.duplex_outputs.specs.Outputs.{RecordArrays, LeavesRecord}
 use Rattle.duplex_kind.specs.Kind.{kindOf, strandFaults}
@@ -17,7 +20,6 @@ use Rattle.duplex_kind.specs.declared.DuplexConsensus.the-variants.{Refused}
 use Rattle.duplex_record.specs.Record.{recordArrays, duplexFaults}
 use Rattle.duplex_run.specs.Run.{runErrors}
 use Rattle.strand_bytes.specs.Strand.{StrandBytes, strandBytes, strandOf}
-use Rattle.bytes_refusal.specs.Rows.{broken}
 
 abbrev pub evident : StrandBytes → Bool
 evident s = s .present && isAnnotated (s .annotation)
@@ -25,6 +27,14 @@ evident s = s .present && isAnnotated (s .annotation)
 -- What is looked at: nothing of an absent strand, and evidence only with an annotation.
 abbrev pub seen : StrandBytes → StrandBytes
 seen s = strandBytes (s .present) (s .annotation) (onlyIf (s .present) (s .bases)) (onlyIf (s .present) (s .quals)) (onlyIf (s .present) (s .depths)) (onlyIf (s .present) (s .errors)) (onlyIf (evident s) (s .evidence))
+
+-- Byte counts of depths, errors or evidence that do not fit the widths.
+abbrev pub misfit : StrandBytes → Bool
+misfit s = oddCount (length (s .depths)) || (oddCount (length (s .errors)) || not (eqb (length (s .evidence) % 9) 0))
+
+-- Row 13's condition: a byte count that does not fit, or a list that is a broken run.
+unfoldable pub broken : StrandBytes → StrandBytes → Bool → List ℕ → Bool
+broken a b listed run = misfit a || (misfit b || (listed && not (isRun run)))
 
 -- Row 13, then what refuses the library's call on the numbers and the reads of the run, of which no part leaves it.
 unfoldable pub bytesFaults : StrandBytes → StrandBytes → Bool → List ℕ → RecordArrays → List Fault

@@ -1,35 +1,17 @@
-// The duplex record of strands given as bytes: what an encoded molecule and the entry points for C have in common. It owns what is
-// looked at; rows 13 and 7 are bytes_refusal's, the numbers and the record those of the crates below.
-// Uses methylation, bytes_refusal, duplex_kind and first_strand.
-ghost use mathlib.Core.Path.{_≡_};
-ghost use mathlib.Core.Bool.{_&&_};
-ghost use Rattle.lists.specs.Part.{onlyIf};
-ghost use Rattle.methylation.specs.Methylation.{isAnnotated};
+// The duplex record of strands given as bytes: what an encoded molecule and the entry points for C have in common. What is looked at,
+// rows 13 and 7 and the numbers are strand_bytes's, the record duplex_record's, the reads duplex_run's.
+// Uses methylation, strand_bytes, duplex_kind, duplex_record and duplex_run.
 ghost use Rattle.duplex_outputs.specs.Outputs.{recordOf};
 ghost use Rattle.strand_bytes.specs.Strand.{strandBytes};
 ghost use Rattle.duplex_bytes.specs.Bytes.{seen, BytesAs};
-use bytes_refusal::early_refusal;
 use duplex_kind::DuplexConsensus;
-use first_strand::duplex_consensus_reading_both;
+use duplex_record::duplex_record;
+use duplex_run::count_errors;
+use duplex_run::count_listed;
 use methylation::Annotation;
-use methylation::is_annotated;
-
-// Bytes that are looked at, or none.
-fn seen_u8(looked_at: bool, xs: &[u8]) -> &[u8]
-    ensures { λ r. ⌜ now r ≡ onlyIf «looked_at» (now (xs .entry)) ⌝ }
-{
-    if looked_at {
-        return xs;
-    }
-    &xs[0..0]
-}
-
-// Evidence is looked at with an annotation.
-fn seen_evidence(present: bool, annotation: Annotation, xs: &[u8]) -> &[u8]
-    ensures { λ r. ⌜ now r ≡ onlyIf (present && isAnnotated annotation) (now (xs .entry)) ⌝ }
-{
-    seen_u8(present & is_annotated(annotation), xs)
-}
+use strand_bytes::ByteCounts;
+use strand_bytes::early_refusal;
+use strand_bytes::read_strand;
 
 // The record of two strands, of one or of none, whose numbers are bytes and whose reads are a run, where there is a list. An absent
 // strand is not looked at, nor evidence without an annotation, nor a run that is no list. Refuses by 13, 7, 8, 9, then by 12 for what
@@ -69,54 +51,91 @@ pub fn duplex_consensus_of_bytes(
         (recordOf (now («bases_out» .exit)) (now («quals_out» .exit)) (now («errors_out» .exit)) (now («a_marks_out» .exit)) (now («a_unconverted_out» .exit)) (now («a_converted_out» .exit)) (now («b_marks_out» .exit)) (now («b_unconverted_out» .exit)) (now («b_converted_out» .exit)))
         r ⌝ }
 {
-    let a_bases = seen_u8(a_present, a_bases);
-    let a_quals = seen_u8(a_present, a_quals);
-    let a_depths = seen_u8(a_present, a_depths);
-    let a_errors = seen_u8(a_present, a_errors);
-    let a_evidence = seen_evidence(a_present, a_annotation, a_evidence);
-    let b_bases = seen_u8(b_present, b_bases);
-    let b_quals = seen_u8(b_present, b_quals);
-    let b_depths = seen_u8(b_present, b_depths);
-    let b_errors = seen_u8(b_present, b_errors);
-    let b_evidence = seen_evidence(b_present, b_annotation, b_evidence);
-    let number = early_refusal(
-        a_present,
-        a_annotation,
-        a_bases,
-        a_quals,
-        a_depths,
-        a_errors,
-        a_evidence,
-        b_present,
-        b_annotation,
-        b_bases,
-        b_quals,
-        b_depths,
-        b_errors,
-        b_evidence,
-        listed,
-        run,
-    );
+    let a = ByteCounts {
+        present: a_present,
+        annotation: a_annotation,
+        bases: a_bases.len(),
+        quals: a_quals.len(),
+        depths: a_depths.len(),
+        errors: a_errors.len(),
+        evidence: a_evidence.len(),
+    };
+    let b = ByteCounts {
+        present: b_present,
+        annotation: b_annotation,
+        bases: b_bases.len(),
+        quals: b_quals.len(),
+        depths: b_depths.len(),
+        errors: b_errors.len(),
+        evidence: b_evidence.len(),
+    };
+    let reads = count_listed(listed, run);
+    let number = early_refusal(a, b, reads.broken);
     if number != 0 {
         return DuplexConsensus::Refused(number);
     }
-    duplex_consensus_reading_both(
+    let mut a_depths_read = [0; 1024];
+    let mut a_errors_read = [0; 1024];
+    let mut a_marks = [0; 1024];
+    let mut a_unconverted = [0; 1024];
+    let mut a_converted = [0; 1024];
+    let a = read_strand(
         a_present,
         a_annotation,
-        a_bases,
-        a_quals,
         a_depths,
         a_errors,
         a_evidence,
+        &mut a_depths_read,
+        &mut a_errors_read,
+        &mut a_marks,
+        &mut a_unconverted,
+        &mut a_converted,
+    );
+    let a_positions = a.depths;
+    let a_wrong = a.errors;
+    let a_places = a.marks;
+    let mut b_depths_read = [0; 1024];
+    let mut b_errors_read = [0; 1024];
+    let mut b_marks = [0; 1024];
+    let mut b_unconverted = [0; 1024];
+    let mut b_converted = [0; 1024];
+    let b = read_strand(
         b_present,
         b_annotation,
-        b_bases,
-        b_quals,
         b_depths,
         b_errors,
         b_evidence,
+        &mut b_depths_read,
+        &mut b_errors_read,
+        &mut b_marks,
+        &mut b_unconverted,
+        &mut b_converted,
+    );
+    let b_positions = b.depths;
+    let b_wrong = b.errors;
+    let b_places = b.marks;
+    let made = duplex_record(
+        a_present,
+        a_bases,
+        a_quals,
+        &a_depths_read[0..a_positions],
+        &a_errors_read[0..a_wrong],
+        a_annotation,
+        &a_marks[0..a_places],
+        &a_unconverted[0..a_places],
+        &a_converted[0..a_places],
+        b_present,
+        b_bases,
+        b_quals,
+        &b_depths_read[0..b_positions],
+        &b_errors_read[0..b_wrong],
+        b_annotation,
+        &b_marks[0..b_places],
+        &b_unconverted[0..b_places],
+        &b_converted[0..b_places],
         listed,
-        run,
+        reads.count,
+        false,
         bases_out,
         quals_out,
         errors_out,
@@ -126,5 +145,18 @@ pub fn duplex_consensus_of_bytes(
         b_marks_out,
         b_unconverted_out,
         b_converted_out,
-    )
+    );
+    count_errors(
+        made,
+        listed,
+        run,
+        a_annotation,
+        a_bases,
+        a_quals,
+        b_annotation,
+        b_bases,
+        b_quals,
+        errors_out,
+    );
+    made
 }

@@ -1,15 +1,11 @@
 -- A molecule's strands from the parts of its bytes. Assumes nothing.
-use mathlib.Core.Path.{_≡_, sym, _∙_}
-use mathlib.Core.Bool.{Bool, true, false}
+use mathlib.Core.Path.{_≡_}
 use mathlib.Core.List.{List, [], _∷_}
 use Prim.Native.Nat.{ℕ, _-_, min}
 use native.Mathlib.Omega.{arith}
-use borrow.Author.Tests.{eq-eqb, ne-eqb}
-use lib.ListN.{length, take, drop, getD}
+use lib.ListN.{length, take, drop}
 use lib.Seq.{take-all}
 use Rattle.methylation.specs.declared.Annotation.{Annotation}
-use Rattle.methylation.specs.declared.Annotation.the-variants.{Absent, Of as Annotated}
-use Rattle.methylation.specs.declared.ConversionPattern.the-variants.{CToT, GToA}
 use Rattle.molecule_encoding.specs.Format.{valueAt}
 use Rattle.molecule_encoding.specs.declared.StrandFields.{StrandFields}
 use Rattle.molecule_encoding.specs.declared.Molecule.{Molecule}
@@ -17,31 +13,17 @@ use Rattle.strand_bytes.specs.Strand.{StrandBytes, strandBytes}
 use Rattle.record_line.specs.Line.{Holds}
 use Rattle.record_line.specs.declared.Line.{Line}
 use Rattle.strands_line.specs.Strands.{strandsText}
-use Rattle.duplex_line.specs.Line.{annotationOf, strandIn, readText}
+use Rattle.duplex_line.specs.Line.{annotationIn, strandIn, readText}
 
 -- All behind the first byte, where there is one.
 pub behind-first : (xs : List ℕ) {from : ℕ} → from ≡ min 1 (length xs) → take (length xs - from) (drop from xs) ≡ drop 1 xs
 behind-first [] {from} e = let none : from ≡ 0 = omega arith in rw none
 behind-first (x ∷ xs) {from} e = let one : from ≡ 1 = omega arith in rw one (take-all (length (x ∷ xs) - 1) xs (omega arith))
 
-module _ (value : List ℕ) {present : Bool} where
-  pub is-absent : present ≡ false → Absent ≡ annotationOf present value
-  unfolding annotationOf
-  is-absent e = rw e
-
-  module _ (e : present ≡ true) {byte : ℕ} (f : byte ≡ getD value 0 0) where
-    pub is-ct : byte ≡ 0 → Annotated CToT ≡ annotationOf present value
-    unfolding annotationOf
-    is-ct z = rw (e, eq-eqb (getD value 0 0) 0 (sym f ∙ z))
-
-    pub is-ga : (byte ≡ 0 → ⊥) → Annotated GToA ≡ annotationOf present value
-    unfolding annotationOf
-    is-ga z = rw (e, ne-eqb (getD value 0 0) 0 (λ h. z (f ∙ h)))
-
 pub strand-is :
     (bytes : List ℕ) (s : StrandFields) {value bases quals depths errors evidence : List ℕ} {annotation : Annotation}
     → value ≡ valueAt bytes (s .annotation)
-    → annotation ≡ annotationOf (s .annotation .present) value
+    → annotation ≡ annotationIn (s .annotation .present) value
     → bases ≡ valueAt bytes (s .bases)
     → quals ≡ valueAt bytes (s .quals)
     → depths ≡ valueAt bytes (s .depths)

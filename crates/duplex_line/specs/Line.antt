@@ -1,15 +1,11 @@
 -- What duplexline prints for an encoded molecule, document 01: the line program, and its input the tray.
 use Prim.Native.Nat.{ℕ, _≤_}
 use mathlib.Core.Path.{_≡_}
-use mathlib.Core.Bool.{Bool, cond}
+use mathlib.Core.Bool.{Bool}
 use mathlib.Core.List.{List}
-use lib.Dec.{eqb}
 use lib.ListN.{length, drop, getD, replicate}
 use Rattle.lists.specs.Output.{put, unless}
 use Rattle.methylation.specs.declared.Annotation.{Annotation}
-use Rattle.methylation.specs.declared.Annotation.the-variants.{Absent, Of as Annotated}
-use Rattle.methylation.specs.declared.ConversionPattern.{ConversionPattern}
-use Rattle.methylation.specs.declared.ConversionPattern.the-variants.{CToT, GToA}
 use Rattle.byte_numbers.specs.Bytes.{words32}
 use Rattle.molecule_encoding.specs.Format.{valueAt, decoded}
 use Rattle.molecule_encoding.specs.declared.StrandFields.{StrandFields}
@@ -19,7 +15,7 @@ use Rattle.molecule_encoding.specs.declared.Decoded.the-variants.{Refused, Of}
 use Rattle.duplex_min_reads.specs.MinReads.{refused}
 use Rattle.duplex_min_reads.specs.declared.Validated.{Validated}
 use Rattle.duplex_min_reads.specs.declared.Validated.the-variants.{Refused as Refused-thresholds, Thresholds}
-use Rattle.strand_bytes.specs.Strand.{StrandBytes, strandBytes}
+use Rattle.strand_bytes.specs.Strand.{StrandBytes, annotationOf, strandBytes}
 use Rattle.record_line.specs.Line.{refusedText}
 use Rattle.record_line.specs.declared.Line.{Line}
 use Rattle.strands_line.specs.Strands.{strandsText}
@@ -28,18 +24,14 @@ use Rattle.strands_line.specs.Strands.{strandsText}
 abbrev pub thresholdsOf : List ℕ → Molecule → List ℕ
 thresholdsOf bytes m = words32 (valueAt bytes (m .thresholds))
 
--- A pattern byte: 0 is C to T, 1 G to A.
-abbrev pub patternOf : ℕ → ConversionPattern
-patternOf byte = cond (eqb byte 0) CToT GToA
-
 -- An annotation's value is its pattern byte and then the evidence.
-unfoldable pub annotationOf : Bool → List ℕ → Annotation
-annotationOf present value = cond present (Annotated (patternOf (getD value 0 0))) Absent
+abbrev pub annotationIn : Bool → List ℕ → Annotation
+annotationIn present value = annotationOf present (getD value 0 0)
 
 -- A strand of a molecule.
 abbrev pub strandIn : List ℕ → StrandFields → StrandBytes
 strandIn bytes s =
-    strandBytes (s .bases .present) (annotationOf (s .annotation .present) (valueAt bytes (s .annotation))) (valueAt bytes (s .bases))
+    strandBytes (s .bases .present) (annotationIn (s .annotation .present) (valueAt bytes (s .annotation))) (valueAt bytes (s .bases))
     (valueAt bytes (s .quals)) (valueAt bytes (s .depths)) (valueAt bytes (s .errors)) (drop 1 (valueAt bytes (s .annotation)))
 
 -- The text for the strands of a molecule and its reads.

@@ -4,7 +4,7 @@ ghost use mathlib.Core.Path.{_≡_};
 ghost use lib.ListN.{drop};
 ghost use Rattle.molecule_encoding.specs.Format.{valueAt};
 ghost use Rattle.record_line.specs.Line.{Holds};
-ghost use Rattle.duplex_line.specs.Line.{annotationOf, numberIn, readText, moleculeText, textOf, TextIn};
+ghost use Rattle.duplex_line.specs.Line.{annotationIn, numberIn, readText, moleculeText, textOf, TextIn};
 use byte_numbers::read_u32s;
 use duplex_min_reads::Validated;
 use duplex_min_reads::validate_min_reads;
@@ -12,7 +12,6 @@ use lists::at_u8;
 use lists::part_u8;
 use lists::smaller;
 use methylation::Annotation;
-use methylation::ConversionPattern;
 use molecule_encoding::Decoded;
 use molecule_encoding::Molecule;
 use molecule_encoding::Span;
@@ -31,15 +30,9 @@ fn value(bytes: &[u8], span: Span) -> &[u8]
 
 // An annotation's pattern, where it is present.
 fn annotation_of(present: bool, value: &[u8]) -> Annotation
-    ensures { λ r. ⌜ r ≡ annotationOf present (now (value .entry)) ⌝ }
+    ensures { λ r. ⌜ r ≡ annotationIn present (now (value .entry)) ⌝ }
 {
-    if present {
-        if at_u8(value, 0, 0) == 0 {
-            return Annotation::Of(ConversionPattern::CToT);
-        }
-        return Annotation::Of(ConversionPattern::GToA);
-    }
-    Annotation::Absent
+    strand_bytes::annotation_of(present, at_u8(value, 0, 0))
 }
 
 // The evidence in an annotation's value: all after the pattern.

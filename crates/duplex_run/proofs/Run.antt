@@ -1,65 +1,29 @@
 -- What a call leaves by the run that it is given.
---     as-consensus, as-run     of a run that is not broken: what is promised of a call on the list of its reads, and no more
---     turned-down              of a broken one that is listed: nothing
 --     not-counted              a count that is asked for no positions
---     made-as                  the record that was made, and the errors counted after it, are what is promised
+--     made-as                  the record that was made, and the errors counted after it, are the record with the run's errors
 -- Assumes nothing.
-use mathlib.Core.Path.{_≡_, refl, sym, ap, _∙_}
-use mathlib.Core.Bool.{Bool, true, false, cond, not, _&&_}
+use mathlib.Core.Path.{_≡_, refl, sym, ap, subst, _∙_}
+use mathlib.Core.Bool.{Bool, true, false, cond, _&&_}
 use mathlib.Core.List.{List}
 use Prim.Native.Nat.{ℕ}
-use native.Mathlib.Omega.{arith}
 use lib.ListN.{length}
 use Rattle.lists.specs.Output.{answer}
-use Rattle.lists.proofs.Output.{answer-refused}
-use Rattle.refusals.specs.Refusal.{refusal}
-use Rattle.molecule_fields.specs.Widths.{isRun}
 use Rattle.duplex_molecule.specs.Molecule.{ctInput}
 use Rattle.duplex_molecule.specs.declared.CtInput.{CtInput}
 use Rattle.duplex_outputs.specs.Outputs.{RecordArrays}
-use Rattle.duplex_outputs.proofs.Outputs.{record-refused}
 use Rattle.duplex_strands.specs.Combine.{uncounted}
 use Rattle.duplex_kind.specs.Kind.{Strand, kindOf, givenFaults}
 use Rattle.duplex_kind.specs.declared.DuplexConsensus.{DuplexConsensus}
 use Rattle.duplex_kind.specs.declared.DuplexConsensus.the-variants.{Refused}
 use Rattle.duplex_record.specs.Record.{duplexFaults, duplexRefused, DuplexAs}
-use Rattle.duplex_consensus.specs.Consensus.{countedPositions, ConsensusAs}
+use Rattle.duplex_consensus.specs.Consensus.{countedPositions}
 use Rattle.duplex_consensus.proofs.Counting.{none-asked}
 use Rattle.duplex_consensus.proofs.Made.{with-errors, counted-as}
 use Rattle.source_reads.specs.Reads.{anyLeaves, countedErrors}
 use Rattle.source_reads.specs.declared.SourceRead.{SourceRead}
 use Rattle.read_run.specs.Run.{readsOf}
 use Rattle.read_run.proofs.Claims.{none-leaves}
-use Rattle.duplex_run.specs.Run.{runFaults, runRefused, RunAs}
-
-module _ (a b : Strand) (listed : Bool) (run : List ℕ) (before : RecordArrays) where
-  -- The refusal of a call on the list of the run's reads.
-  abbrev refused : ℕ
-  refused = duplexRefused a b listed (length (readsOf run)) (anyLeaves (length run) (readsOf run)) before
-
-  module _ (whole : (listed && not (isRun run)) ≡ false) where
-    same-refusal : runRefused a b listed run before ≡ refused
-    unfolding runFaults duplexFaults givenFaults refusal
-    same-refusal = rw (whole, none-leaves run)
-
-    pub as-consensus : {now : RecordArrays} {r : DuplexConsensus} → RunAs a b listed run before now r → ConsensusAs a b listed (readsOf run) run before now r
-    as-consensus h = record {
-      answered = h .answered ∙ ap (λ (n : ℕ). answer Refused n (kindOf a b)) same-refusal;
-      outputs = rw (← same-refusal) (h .outputs);
-    }
-
-    pub as-run : {now : RecordArrays} {r : DuplexConsensus} → ConsensusAs a b listed (readsOf run) run before now r → RunAs a b listed run before now r
-    as-run h = record {
-      answered = h .answered ∙ ap (λ (n : ℕ). answer Refused n (kindOf a b)) (sym same-refusal);
-      outputs = rw same-refusal (h .outputs);
-    }
-
-  pub turned-down : (listed && not (isRun run)) ≡ true → RunAs a b listed run before before (Refused 13)
-  unfolding runFaults duplexFaults givenFaults refusal
-  turned-down broken =
-      let number : 13 ≡ runRefused a b listed run before = rw broken in
-      let some-row : _≡_ {A = ℕ} 13 0 → ⊥ = λ e. omega arith in
-      record { answered = answer-refused Refused (kindOf a b) number some-row; outputs = record-refused number some-row }
+use Rattle.duplex_run.specs.Run.{runErrors}
 
 pub not-counted :
     (reads : List SourceRead) (bytes : List ℕ) (ct : CtInput) (basesA qualsA basesB qualsB errors : List ℕ) {positions asked : ℕ}
@@ -81,16 +45,16 @@ none-leaves-listed false run = refl
 
 pub made-as :
     (a b : Strand) (listed : Bool) (run : List ℕ) (before made : RecordArrays) {r : DuplexConsensus} {count : ℕ} {us : List ℕ}
-    → (listed && not (isRun run)) ≡ false
     → count ≡ cond listed (length (readsOf run)) 0
     → DuplexAs a b listed count false uncounted before made r
     → us ≡ countedErrors (readsOf run) run (ctInput (a .annotation) (b .annotation)) (countedPositions listed r) (a .arrays .bases) (a .arrays .quals) (b .arrays .bases) (b .arrays .quals) (made .errors)
-    → RunAs a b listed run before (with-errors us made) r
-made-as a b listed run before made {r} {count} whole e d u =
+    → DuplexAs a b listed (length (readsOf run)) false (runErrors a b run) before (with-errors us made) r
+made-as a b listed run before made {r} {count} {us} e d u =
     let n = length (readsOf run) in
     let same : duplexRefused a b listed count false before ≡ duplexRefused a b listed n false before = ap (λ (k : ℕ). duplexRefused a b listed k false before) e ∙ of-list a b listed n before in
     let on-list : DuplexAs a b listed n false uncounted before made r = record {
       answered = d .answered ∙ ap (λ (k : ℕ). answer Refused k (kindOf a b)) same;
       outputs = rw (← same) (d .outputs);
     } in
-    as-run a b listed run before whole (counted-as a b listed (readsOf run) run before made (none-leaves-listed listed run) on-list refl u)
+    subst (λ (x : Bool). DuplexAs a b listed n x (runErrors a b run) before (with-errors us made) r) (none-leaves run)
+    (counted-as a b listed (readsOf run) run before made (none-leaves-listed listed run) on-list refl u)

@@ -1,5 +1,6 @@
 -- Laws of a strand given as bytes.
 --     narrow-whole     of at most 1,024 positions an array, nothing is cut
+--     of-seen          what was read of what is looked at, by what the code has of that
 --     Room             five arrays of one size; read-fits, read-within: what was read to them is there, and is the strand within that size
 -- Assumes nothing.
 use mathlib.Core.Path.{_≡_, sym, ap, _∙_}
@@ -31,6 +32,9 @@ unfolding strandWithin strandOf
 narrow-whole s h =
     rw
     (whole 2 1024 numberOf (s .depths) (h .depths), whole 2 1024 numberOf (s .errors) (h .errors), whole 9 1024 markIn (s .evidence) (h .evidence), whole 9 1024 (countIn 1) (s .evidence) (h .evidence), whole 9 1024 (countIn 5) (s .evidence) (h .evidence))
+
+pub of-seen : {d d' e e' v v' : List ℕ} {before now : Numbers} {r : StrandCounts} → d ≡ d' → e ≡ e' → v ≡ v' → StrandRead d e v before now r → StrandRead d' e' v' before now r
+of-seen p q s x = rw (← p, ← q, ← s) x
 
 -- The first k elements, as a slice of them has it.
 abbrev pub first : ℕ → List ℕ → List ℕ

@@ -2,16 +2,23 @@
 -- byte first, evidence nine.
 use Prim.Native.Nat.{ℕ, _/_, _≤_, min}
 use mathlib.Core.Path.{_≡_}
-use mathlib.Core.Bool.{Bool}
+use mathlib.Core.Bool.{Bool, cond}
 use mathlib.Core.List.{List}
+use lib.Dec.{eqb}
 use lib.ListN.{length, take}
 use Rattle.lists.specs.Output.{put}
 use Rattle.methylation.specs.declared.Annotation.{Annotation}
+use Rattle.methylation.specs.declared.Annotation.the-variants.{Absent, Of}
+use Rattle.methylation.specs.declared.ConversionPattern.the-variants.{CToT, GToA}
 use Rattle.vanilla_caller.specs.Strand.{arrays}
 use Rattle.byte_numbers.specs.Bytes.{words16}
 use Rattle.evidence_bytes.specs.Evidence.{marksOf, unconvertedOf, convertedOf}
 use Rattle.duplex_kind.specs.Kind.{Strand, strand}
 use Rattle.strand_bytes.specs.declared.StrandCounts.{StrandCounts}
+
+-- An annotation, where there is one, by the number of its pattern: 0 is C to T, 1 G to A. A number above 1 is refused.
+unfoldable pub annotationOf : Bool → ℕ → Annotation
+annotationOf annotated pattern = cond annotated (Of (cond (eqb pattern 0) CToT GToA)) Absent
 
 pub record StrandBytes : Type 0 where
   pub present : Bool

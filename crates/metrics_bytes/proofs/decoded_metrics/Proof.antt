@@ -1,9 +1,9 @@
 -- `metrics_bytes::decoded_metrics` meets its contract: the library's call has the decoded numbers. Assumes nothing.
-use mathlib.Core.Path.{_≡_, ap, _∙_}
+use mathlib.Core.Path.{_≡_, refl, ap, _∙_}
 use mathlib.Core.Bool.{Bool}
 use mathlib.Core.List.{List}
 use Prim.Native.Nat.{ℕ, _-_, _/_, _≤_}
-use borrow.Author.Needs.{needs}
+use borrow.Author.Needs.{zero≤}
 use native.Mathlib.Nat.{sub-zero}
 use native.Mathlib.Omega.{arith}
 use lib.ListN.{length, take, replicate}
@@ -32,8 +32,9 @@ same-input :
     → input a ae second b be bases e ≡ input a' ae' second b' be' bases e'
 same-input a ae b be e = cc
 
-part-metrics-bits-end-5 : tie.Need-part-metrics-bits-end-5
-part-metrics-bits-end-5 c = omega (arith, c .before .before .before .before .before .before .before .before .before .before .before .before .before .before .before .before .before .before .before .before .before .before .before .before .before .before .before .before .before .before .pre .errors)
+-- What an array of 1,024 has room for.
+room : {n places : ℕ} → n ≤ 1024 → places ≡ 1024 → n ≤ places
+room h e = omega arith
 
 returns : tie.Need-returns
 returns c =
@@ -56,30 +57,30 @@ pub decoded-metrics-spec : {M : Type 1} → statement M
 decoded-metrics-spec =
     tie.close
     (tie.spec
-    (λ c. search needs)
-    (λ c κs. search needs)
-    (λ c. search needs)
-    (λ c κs. search needs)
-    (λ c. search needs)
-    (λ c κs. search needs)
-    (λ c. search needs)
-    (λ c κs. search needs)
-    (λ c. search needs)
-    (λ c κs. search needs)
-    (λ c. search needs)
-    (λ c. search needs)
-    (λ c. search needs)
-    (λ c. search needs)
-    (λ c. search needs)
-    (λ c. search needs)
-    (λ c. search needs)
-    (λ c. search needs)
-    (λ c. search needs)
-    (λ c. search needs)
-    (λ c. search needs)
-    (λ c. search needs)
-    (λ c. search needs)
-    (λ c. search needs)
-    part-metrics-bits-end-5
+    (λ c. refl)
+    (λ c κs. tt)
+    (λ c. refl)
+    (λ c κs. tt)
+    (λ c. refl)
+    (λ c κs. tt)
+    (λ c. refl)
+    (λ c κs. tt)
+    (λ c. refl)
+    (λ c κs. tt)
+    (λ c. zero≤)
+    (λ c. zero≤)
+    (λ c. room (c .before .before .before .before .before .before .before .before .before .before .before .before .before .before .before .before .before .before .before .before .before .before .pre .a) (c .before .before .before .before .before .before .before .before .before .before .before .before .before .a2 .given))
+    (λ c. zero≤)
+    (λ c. zero≤)
+    (λ c. room (c .before .before .before .before .before .before .before .before .before .before .before .before .before .before .before .before .before .before .before .before .before .before .before .before .pre .a-errors) (c .before .before .before .before .before .before .before .before .before .before .before .before .a-wrong2 .given))
+    (λ c. zero≤)
+    (λ c. zero≤)
+    (λ c. room (c .before .before .before .before .before .before .before .before .before .before .before .before .before .before .before .before .before .before .before .before .before .before .before .before .before .before .pre .b) (c .before .before .before .before .before .before .before .before .before .before .before .b2 .given))
+    (λ c. zero≤)
+    (λ c. zero≤)
+    (λ c. room (c .before .before .before .before .before .before .before .before .before .before .before .before .before .before .before .before .before .before .before .before .before .before .before .before .before .before .before .before .pre .b-errors) (c .before .before .before .before .before .before .before .before .before .before .b-wrong2 .given))
+    (λ c. zero≤)
+    (λ c. zero≤)
+    (λ c. room (c .before .before .before .before .before .before .before .before .before .before .before .before .before .before .before .before .before .before .before .before .before .before .before .before .before .before .before .before .before .before .pre .errors) (c .before .before .before .before .before .before .before .before .before .wrong2 .given))
     (λ c κs. tt)
     returns)

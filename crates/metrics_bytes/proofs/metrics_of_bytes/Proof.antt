@@ -1,5 +1,5 @@
 -- `metrics_bytes::metrics_of_bytes` meets its contract: an absent second strand is passed on empty. Assumes nothing.
-use borrow.Author.Needs.{needs}
+use borrow.Author.Needs.{zero≤}
 use denote.Ref.{now}
 use Rattle.duplex_metrics.proofs.Few.{looked-at}
 use Rattle.metrics_bytes.proofs.Bytes.{none-taken}
@@ -25,12 +25,12 @@ metrics-of-bytes-spec =
     (tie.spec
     (λ c κs. tt)
     (λ c κs. tt)
-    (λ c. search needs)
-    (λ c. search needs)
-    (λ c. search needs)
-    (λ c. search needs)
-    (λ c. search needs)
-    (λ c. search needs)
+    (λ c. zero≤)
+    (λ c. zero≤)
+    (λ c. c .before .counted .ensures .1)
+    (λ c. zero≤)
+    (λ c. zero≤)
+    (λ c. c .before .counted2 .ensures .1)
     write-metrics-requires
-    (λ c. search needs)
+    (λ c. c .before .out .given)
     returns)

@@ -1,4 +1,6 @@
 -- `strand_bytes::read_strand` meets its contract: each array is read by its own call. Assumes nothing.
+use mathlib.Core.Path.{_∙_}
+use Rattle.strand_bytes.proofs.Strand.{of-seen}
 use Rattle.strand_bytes.proofs.read_strand.Statement.{statement}
 use Rattle.strand_bytes.proofs.read_strand.Tie as tie
 
@@ -8,6 +10,9 @@ returns c =
     let errors = evidence .before .before .before .before .before .before in
     let depths = errors .before .before .before .before in
     let counted = depths .before .before in
+    let seen = counted .before .before .before in
+    of-seen (seen .before .before .before .seen-u8 .ensures) (seen .before .before .seen-u82 .ensures)
+    (seen .seen-u83 .ensures ∙ rw (seen .before .is-annotated .ensures))
     record {
       depths = depths .read-u16s .ensures;
       errors = errors .read-u16s2 .ensures;
@@ -23,6 +28,10 @@ pub read-strand-spec : {M : Type 1} → statement M
 read-strand-spec =
     tie.close
     (tie.spec
+    (λ c κs. tt)
+    (λ c κs. tt)
+    (λ c κs. tt)
+    (λ c κs. tt)
     (λ c κs. tt)
     (λ c κs. tt)
     (λ c κs. tt)
