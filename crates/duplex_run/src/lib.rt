@@ -1,5 +1,5 @@
 // The source reads of a duplex record as a run of reads, as an encoded molecule and the entry points for C have them: how many are
-// listed, and their errors. Uses methylation, duplex_molecule, duplex_kind, duplex_consensus, read_run and run_errors.
+// listed, and their errors. Uses methylation, duplex_molecule, duplex_kind, duplex_consensus and read_run.
 ghost use mathlib.Core.Path.{_≡_};
 ghost use Rattle.duplex_molecule.specs.Molecule.{ctInput};
 ghost use Rattle.duplex_consensus.specs.Consensus.{countedPositions};
@@ -12,7 +12,7 @@ use duplex_molecule::ct_input;
 use methylation::Annotation;
 use read_run::ReadCount;
 use read_run::count_reads;
-use run_errors::count_run_errors;
+use read_run::count_run_errors;
 
 // How many reads are listed. Where there is no list, the run is not looked at.
 pub fn count_listed(listed: bool, run: &[u8]) -> ReadCount

@@ -24,36 +24,30 @@ pub record Begins (bytes : List ℕ) (f : Field) (rest : List ℕ) : Type 0 wher
   pub bytes-are : bytes ≡ f .tag ∷ (low ∷ (high ∷ (f .value ++ rest)))
   pub length-is : word low high ≡ length (f .value)
 
-pub begins : (bytes : List ℕ) {f : Field} {rest : List ℕ} → front bytes ≡ whole f rest → Begins bytes f rest
+-- What some bytes are, by what they begin with.
+abbrev Seen : List ℕ → Front → Type 0
+Seen bytes nothing = bytes ≡ []
+Seen bytes cut = Unit {0}
+Seen bytes (whole f rest) = Begins bytes f rest
+
+seen : (bytes : List ℕ) → Seen bytes (front bytes)
 unfolding front
-begins [] {f} {rest} e =
-    let no : _≡_ {A = ℕ} 0 1 = cc in
-    absurd (omega arith)
-begins (a ∷ []) {f} {rest} e =
-    let no : _≡_ {A = ℕ} 0 1 = cc in
-    absurd (omega arith)
-begins (a ∷ (b ∷ [])) {f} {rest} e =
-    let no : _≡_ {A = ℕ} 0 1 = cc in
-    absurd (omega arith)
-begins (a ∷ (b ∷ (c ∷ bs))) {f} {rest} e = go (ltb (length bs) (word b c)) refl e
+seen [] = refl
+seen (a ∷ []) = tt
+seen (a ∷ (b ∷ [])) = tt
+seen (a ∷ (b ∷ (c ∷ bs))) = go (ltb (length bs) (word b c)) refl
   where
-    go :
-        (short : Bool)
-        → ltb (length bs) (word b c) ≡ short
-        → cond short cut (whole (field a (take (word b c) bs)) (drop (word b c) bs)) ≡ whole f rest
-        → Begins (a ∷ (b ∷ (c ∷ bs))) f rest
-    go true s e =
-        let no : _≡_ {A = ℕ} 0 1 = cc in
-        absurd (omega arith)
-    go false s e =
-        let here : f ≡ field a (take (word b c) bs) = cc in
-        let later : rest ≡ drop (word b c) bs = cc in
-        record {
-          low = b;
-          high = c;
-          bytes-are = rw (here, later, take-append-drop);
-          length-is = rw here (sym (length-take-le (word b c) bs (ltb-false _ _ s)));
-        }
+    go : (short : Bool) → ltb (length bs) (word b c) ≡ short → Seen (a ∷ (b ∷ (c ∷ bs))) (cond short cut (whole (field a (take (word b c) bs)) (drop (word b c) bs)))
+    go true s = tt
+    go false s = record {
+      low = b;
+      high = c;
+      bytes-are = rw take-append-drop;
+      length-is = sym (length-take-le (word b c) bs (ltb-false _ _ s));
+    }
+
+pub begins : (bytes : List ℕ) {f : Field} {rest : List ℕ} → front bytes ≡ whole f rest → Begins bytes f rest
+begins bytes e = rw e at (seen bytes)
 
 -- A field takes at least three bytes.
 rest-shorter : (bytes : List ℕ) {f : Field} {rest : List ℕ} → front bytes ≡ whole f rest → length rest < length bytes
@@ -116,25 +110,6 @@ module _ (low high n : ℕ) (l : low < 256) (h : high < 256) (e : word low high 
   short-is : n < 65536
   short-is = omega arith
 
-front-nothing : (bytes : List ℕ) → front bytes ≡ nothing → bytes ≡ []
-unfolding front
-front-nothing [] e = refl
-front-nothing (a ∷ []) e =
-    let no : _≡_ {A = ℕ} 0 1 = cc in
-    absurd (omega arith)
-front-nothing (a ∷ (b ∷ [])) e =
-    let no : _≡_ {A = ℕ} 0 1 = cc in
-    absurd (omega arith)
-front-nothing (a ∷ (b ∷ (c ∷ bs))) e = go (ltb (length bs) (word b c)) e
-  where
-    go : (short : Bool) → cond short cut (whole (field a (take (word b c) bs)) (drop (word b c) bs)) ≡ nothing → a ∷ (b ∷ (c ∷ bs)) ≡ []
-    go true e =
-        let no : _≡_ {A = ℕ} 0 1 = cc in
-        absurd (omega arith)
-    go false e =
-        let no : _≡_ {A = ℕ} 0 1 = cc in
-        absurd (omega arith)
-
 module _ {bytes : List ℕ} {f : Field} {rest : List ℕ} (b : Begins bytes f rest) (small : IsBytes bytes) where
   rest-bytes : IsBytes rest
   rest-bytes i = rw (b .bytes-are, getD-append-add) at (small (suc (suc (suc (length (f .value) + i)))))
@@ -158,7 +133,7 @@ written-within (suc most) bytes h small e = go (front bytes) refl (λ rest short
     go : (b : Front) → front bytes ≡ b → ((rest : List ℕ) → length rest < length bytes → IsBytes rest → cutField rest ≡ false → Encodes rest (wholeFields rest)) → Encodes bytes (wholeFields bytes)
     go nothing b later =
         let none : wholeFields bytes ≡ [] = ap (λ (x : Fields). x .whole-ones) (fields-none bytes b) in
-        rw none (record { bytes-are = front-nothing bytes b; short = tt })
+        rw none (record { bytes-are = rw b at (seen bytes); short = tt })
     go cut b later = absurd (true≢false (sym (ap (λ (x : Fields). x .cut-one) (fields-cut bytes b)) ∙ e))
     go (whole f rest) b later =
         let are : wholeFields bytes ≡ f ∷ wholeFields rest = ap (λ (x : Fields). x .whole-ones) (fields-whole bytes b) in

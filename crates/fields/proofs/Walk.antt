@@ -19,33 +19,6 @@ use Rattle.fields.specs.declared.NextField.{NextField}
 use Rattle.fields.specs.declared.NextField.the-variants.{End, Cut, Whole}
 use Rattle.fields.proofs.Fields.{Begins, begins, fields-none, fields-cut, fields-whole}
 
-module _ (bytes : List ℕ) (at : ℕ) where
-  pub at-end : nextField bytes at ≡ End → fieldsOf (drop at bytes) ≡ fields [] false
-  unfolding nextField
-  at-end e = go (front (drop at bytes)) refl e
-    where
-      go : (b : Front) → front (drop at bytes) ≡ b → located at b ≡ End → fieldsOf (drop at bytes) ≡ fields [] false
-      go nothing b e = fields-none (drop at bytes) b
-      go cut b e =
-          let no : _≡_ {A = ℕ} 0 1 = cc in
-          absurd (omega arith)
-      go (whole f rest) b e =
-          let no : _≡_ {A = ℕ} 0 1 = cc in
-          absurd (omega arith)
-
-  pub at-cut : nextField bytes at ≡ Cut → fieldsOf (drop at bytes) ≡ fields [] true
-  unfolding nextField
-  at-cut e = go (front (drop at bytes)) refl e
-    where
-      go : (b : Front) → front (drop at bytes) ≡ b → located at b ≡ Cut → fieldsOf (drop at bytes) ≡ fields [] true
-      go nothing b e =
-          let no : _≡_ {A = ℕ} 0 1 = cc in
-          absurd (omega arith)
-      go cut b e = fields-cut (drop at bytes) b
-      go (whole f rest) b e =
-          let no : _≡_ {A = ℕ} 0 1 = cc in
-          absurd (omega arith)
-
 -- A field f of some bytes begins at a place.
 pub record BeginsAt (bytes : List ℕ) (at : ℕ) (f : FieldAt) : Type 0 where
   pub header : f .offset ≡ at + 3
@@ -69,27 +42,37 @@ module _ (bytes : List ℕ) (at : ℕ) {g : Field} {rest : List ℕ} (b : Begins
   rest-is : drop (at + 3 + length (g .value)) bytes ≡ rest
   rest-is = sym (drop-drop (length (g .value)) (at + 3) bytes) ∙ rw (after-header, drop-append-seam (g .value) rest)
 
-pub at-whole : (bytes : List ℕ) (at : ℕ) {f : FieldAt} → nextField bytes at ≡ Whole f → BeginsAt bytes at f
-unfolding nextField
-at-whole bytes at {f} e = go (front (drop at bytes)) refl e
-  where
-    go : (b : Front) → front (drop at bytes) ≡ b → located at b ≡ Whole f → BeginsAt bytes at f
-    go nothing b e =
-        let no : _≡_ {A = ℕ} 0 1 = cc in
-        absurd (omega arith)
-    go cut b e =
-        let no : _≡_ {A = ℕ} 0 1 = cc in
-        absurd (omega arith)
-    go (whole g rest) b e =
-        let is : f ≡ record { tag = g .tag; offset = at + 3; length = length (g .value) } = cc in
-        let here = begins (drop at bytes) b in
-        rw is
-        (record {
-          header = refl;
-          within = value-within bytes at here;
-          sized = ap length (value-is bytes at here);
-          fields-are = rw (value-is bytes at here, rest-is bytes at here) (fields-whole (drop at bytes) b);
-        })
+module _ (bytes : List ℕ) (at : ℕ) where
+  -- What is known of the fields from a place on, by what begins there.
+  abbrev Told : NextField → Type 0
+  Told End = fieldsOf (drop at bytes) ≡ fields [] false
+  Told Cut = fieldsOf (drop at bytes) ≡ fields [] true
+  Told (Whole f) = BeginsAt bytes at f
+
+  told : Told (nextField bytes at)
+  unfolding nextField
+  told = go (front (drop at bytes)) refl
+    where
+      go : (b : Front) → front (drop at bytes) ≡ b → Told (located at b)
+      go nothing b = fields-none (drop at bytes) b
+      go cut b = fields-cut (drop at bytes) b
+      go (whole g rest) b =
+          let here = begins (drop at bytes) b in
+          record {
+            header = refl;
+            within = value-within bytes at here;
+            sized = ap length (value-is bytes at here);
+            fields-are = rw (value-is bytes at here, rest-is bytes at here) (fields-whole (drop at bytes) b);
+          }
+
+  pub at-end : nextField bytes at ≡ End → fieldsOf (drop at bytes) ≡ fields [] false
+  at-end e = rw e at told
+
+  pub at-cut : nextField bytes at ≡ Cut → fieldsOf (drop at bytes) ≡ fields [] true
+  at-cut e = rw e at told
+
+  pub at-whole : {f : FieldAt} → nextField bytes at ≡ Whole f → BeginsAt bytes at f
+  at-whole e = rw e at told
 
 -- What holds where a walk ends, and at each field where it holds at the field's end, holds at every place.
 module _

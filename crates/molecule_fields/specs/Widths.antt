@@ -1,12 +1,13 @@
--- A field of an encoded molecule by itself, the tray of document 01: its tag, the widths of its value, and an annotation's pattern and
--- marks.
+-- A field of an encoded molecule by itself, the tray of document 01: its tag, the widths of its value, an annotation's pattern and
+-- marks, and what a read is.
 use Prim.Native.Nat.{ℕ, _+_, _*_, _/_, _%_}
 use mathlib.Core.Bool.{Bool, not, _&&_, _||_}
 use mathlib.Core.List.{List, [], _∷_}
 use lib.Dec.{eqb, leb}
-use lib.ListN.{length, getD}
+use lib.ListN.{length, drop, getD}
 use Rattle.lists.specs.Every.{every, among}
 use Rattle.lists.specs.Table.{tabulate}
+use Rattle.byte_numbers.specs.Bytes.{word}
 use Rattle.fields.specs.Encoding.{Field, wholeFields, cutField}
 
 -- Where the first holds, so does the second.
@@ -28,15 +29,19 @@ wordTags = 0x12 ∷ 0x13 ∷ 0x22 ∷ 0x23 ∷ []
 abbrev pub annotationTags : List ℕ
 annotationTags = 0x14 ∷ 0x24 ∷ []
 
+-- A tag and a length of a read: the tag 30, and two bytes of flags before the bases.
+abbrev pub readField : ℕ → ℕ → Bool
+readField tag n = eqb tag 0x30 && leb 2 n
+
 -- A length fits the widths: 4 bytes a threshold, 2 a depth or an error, 1 and 9 a position of an annotation, none of the list's
--- marker, 2 for the flags of a read. Bases and qualities have any.
+-- marker, a read's. Bases and qualities have any.
 unfoldable pub lengthFits : ℕ → ℕ → Bool
 lengthFits tag n =
     implies (eqb tag 0x01) (eqb (n % 4) 0)
     && (implies (among tag wordTags) (eqb (n % 2) 0)
     && (implies (among tag annotationTags) (eqb (n % 9) 1)
     && (implies (eqb tag 0x2f) (eqb n 0)
-    && implies (eqb tag 0x30) (leb 2 n))))
+    && implies (eqb tag 0x30) (readField tag n))))
 
 -- 0 or 1.
 abbrev pub isBit : ℕ → Bool
@@ -54,9 +59,15 @@ bitsFit f = implies (among (f .tag) annotationTags) (isBit (getD (f .value) 0 0)
 unfoldable pub wellFormed : Field → Bool
 wellFormed f = knownTag (f .tag) && (lengthFits (f .tag) (length (f .value)) && bitsFit f)
 
--- A field is a read: it has the tag 30 and two bytes of flags.
 abbrev pub isRead : Field → Bool
-isRead f = eqb (f .tag) 0x30 && leb 2 (length (f .value))
+isRead f = readField (f .tag) (length (f .value))
+
+-- A read's flags, low byte first, and the bases after them.
+unfoldable pub flagsOf : Field → ℕ
+flagsOf f = word (getD (f .value) 0 0) (getD (f .value) 1 0)
+
+abbrev pub basesOf : Field → List ℕ
+basesOf f = drop 2 (f .value)
 
 -- A run of reads: whole fields, and each a read.
 unfoldable pub isRun : List ℕ → Bool

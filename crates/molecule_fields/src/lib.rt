@@ -1,9 +1,10 @@
-// A field of an encoded molecule by itself, the tray of document 01: its tag, the widths of its value, and an annotation's pattern
-// and marks. Uses lists and fields.
+// A field of an encoded molecule by itself, the tray of document 01: its tag, the widths of its value, an annotation's pattern
+// and marks, and what a read is. Uses lists, byte_numbers and fields.
 ghost use mathlib.Core.Path.{_≡_};
 ghost use Rattle.lists.specs.Every.{every, among};
 ghost use Rattle.fields.specs.Encoding.{field, fieldAt};
-ghost use Rattle.molecule_fields.specs.Widths.{annotationTags, knownTag, lengthFits, isBit, marks, bitsFit, wellFormed};
+ghost use Rattle.molecule_fields.specs.Widths.{annotationTags, knownTag, readField, lengthFits, isBit, marks, bitsFit, wellFormed, flagsOf};
+use byte_numbers::u16_of;
 use fields::FieldAt;
 use lists::at_u8;
 use lists::part_u8;
@@ -33,6 +34,13 @@ fn is_annotation(tag: u8) -> bool
     (tag == 0x14) | (tag == 0x24)
 }
 
+// Whether a tag and a length are a read's.
+pub fn is_read(tag: u8, n: usize) -> bool
+    ensures { λ r. ⌜ r ≡ readField tag n ⌝ }
+{
+    (tag == READ) & (2 <= n)
+}
+
 // Whether a length fits the widths of a tag's values.
 fn length_fits(tag: u8, n: usize) -> bool
     ensures { λ r. ⌜ r ≡ lengthFits tag n ⌝ }
@@ -42,7 +50,7 @@ fn length_fits(tag: u8, n: usize) -> bool
     let words_fit = !words | (n % 2 == 0);
     let annotation_fits = !is_annotation(tag) | (n % 9 == 1);
     let marker_fits = !(tag == READ_LIST) | (n == 0);
-    let read_fits = !(tag == READ) | (2 <= n);
+    let read_fits = !(tag == READ) | is_read(tag, n);
     thresholds_fit & (words_fit & (annotation_fits & (marker_fits & read_fits)))
 }
 
@@ -76,4 +84,12 @@ pub fn field_fits(bytes: &[u8], f: FieldAt) -> bool
     let tag = f.tag;
     let value = part_u8(bytes, f.offset, f.length);
     known_tag(tag) & (length_fits(tag, value.len()) & bits_fit(tag, value))
+}
+
+// The flags of a read that is a field of the bytes.
+pub fn read_flags(bytes: &[u8], f: FieldAt) -> u16
+    ensures { λ r. ⌜ r ≡ flagsOf (fieldAt (now (bytes .entry)) f) ⌝ }
+{
+    let value = part_u8(bytes, f.offset, f.length);
+    u16_of(at_u8(value, 0, 0), at_u8(value, 1, 0))
 }

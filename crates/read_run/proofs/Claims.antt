@@ -18,10 +18,10 @@ use Rattle.fields.specs.Encoding.{Field, Fields, wholeFields, cutField, nextFie
 use Rattle.fields.specs.declared.FieldAt.{FieldAt}
 use Rattle.fields.specs.declared.NextField.the-variants.{End, Cut}
 use Rattle.fields.proofs.Walk.{BeginsAt, at-end, at-cut, along}
-use Rattle.molecule_fields.specs.Widths.{isRead, isRun}
+use Rattle.molecule_fields.specs.Widths.{isRead, flagsOf, basesOf, isRun}
 use Rattle.source_reads.specs.Reads.{readLeaves, anyLeaves}
 use Rattle.source_reads.specs.declared.SourceRead.{SourceRead}
-use Rattle.read_run.specs.Run.{flagsOf, readOf, readsFrom, readsOf}
+use Rattle.read_run.specs.Run.{readOf, readsFrom, readsOf}
 
 -- One more read within a buffer of n bytes.
 stays-too : (n : ℕ) (read : SourceRead) (reads : List SourceRead) → readLeaves n read ≡ false → anyLeaves n reads ≡ false → anyLeaves n (read ∷ reads) ≡ false
@@ -37,7 +37,7 @@ module _ (run : List ℕ) where
     abbrev rest : List Field
     rest = wholeFields (drop (f .offset + f .length) run)
 
-    here : readsFrom at (wholeFields (drop at run)) ≡ cond (isRead (fieldAt run f)) (readOf at (fieldAt run f) ∷ readsFrom (f .offset + f .length) rest) []
+    here : readsFrom at (wholeFields (drop at run)) ≡ cond (isRead (fieldAt run f)) (readOf (f .offset) (fieldAt run f) ∷ readsFrom (f .offset + f .length) rest) []
     unfolding readsFrom
     here =
         let start : at + 3 ≡ f .offset = sym (b .header) in
@@ -46,14 +46,14 @@ module _ (run : List ℕ) where
     two : isRead (fieldAt run f) ≡ true → 2 ≤ f .length
     two e = rw (b .sized) at (leb-true 2 (length (fieldAt run f .value)) (both-hold (eqb (f .tag) 0x30) (leb 2 (length (fieldAt run f .value))) e .1))
 
-    stays : isRead (fieldAt run f) ≡ true → readLeaves (length run) (readOf at (fieldAt run f)) ≡ false
+    stays : isRead (fieldAt run f) ≡ true → readLeaves (length run) (readOf (f .offset) (fieldAt run f)) ≡ false
     unfolding readLeaves leaves
-    stays e = rw (b .sized) (le-ltb (length run) (at + 3 + 2 + (f .length - 2)) (omega (arith, two e, b .header, b .within)))
+    stays e = rw (b .sized) (le-ltb (length run) (f .offset + 2 + (f .length - 2)) (omega (arith, two e, b .within)))
 
     within-whole : Within (f .offset + f .length) → Within at
     within-whole later = rw here (go (isRead (fieldAt run f)) refl later)
       where
-        go : (t : Bool) → isRead (fieldAt run f) ≡ t → Within (f .offset + f .length) → anyLeaves (length run) (cond t (readOf at (fieldAt run f) ∷ readsFrom (f .offset + f .length) rest) []) ≡ false
+        go : (t : Bool) → isRead (fieldAt run f) ≡ t → Within (f .offset + f .length) → anyLeaves (length run) (cond t (readOf (f .offset) (fieldAt run f) ∷ readsFrom (f .offset + f .length) rest) []) ≡ false
         go true t later = stays-too _ _ _ (stays t) later
         go false t later = unfold anyLeaves in refl
 
@@ -74,7 +74,7 @@ module _ (run : List ℕ) where
   seen read = (read .flags, part (read .offset) (read .length) run)
 
   abbrev meant : Field → ℕ × List ℕ
-  meant f = (flagsOf f, drop 2 (f .value))
+  meant f = (flagsOf f, basesOf f)
 
   abbrev Told : ℕ → Type 0
   Told at = isRun (drop at run) ≡ true → map seen (readsFrom at (wholeFields (drop at run))) ≡ map meant (wholeFields (drop at run))
@@ -103,16 +103,15 @@ module _ (run : List ℕ) where
         let (d, e) = both-hold (isRead (fieldAt run f)) (every isRead others) c in
         (d, rw (a, e))
 
-    first-told : isRead (fieldAt run f) ≡ true → seen (readOf at (fieldAt run f)) ≡ meant (fieldAt run f)
+    first-told : isRead (fieldAt run f) ≡ true → seen (readOf (f .offset) (fieldAt run f)) ≡ meant (fieldAt run f)
     first-told e =
-        let start : at + 3 ≡ f .offset = sym (b .header) in
-        ap (λ (bases : List ℕ). (flagsOf (fieldAt run f), bases)) (rw (b .sized, start) (part-after 2 (f .offset) (f .length) run (two at f b e) (b .within)))
+        ap (λ (bases : List ℕ). (flagsOf (fieldAt run f), bases)) (rw (b .sized) (part-after 2 (f .offset) (f .length) run (two at f b e) (b .within)))
 
     told-whole : Told (f .offset + f .length) → Told at
     told-whole later whole =
         let (one, left) = run-opened whole in
         let others = wholeFields (drop (f .offset + f .length) run) in
-        let reads-are : readsFrom at (wholeFields (drop at run)) ≡ readOf at (fieldAt run f) ∷ readsFrom (f .offset + f .length) others = rw one at (here at f b) in
+        let reads-are : readsFrom at (wholeFields (drop at run)) ≡ readOf (f .offset) (fieldAt run f) ∷ readsFrom (f .offset + f .length) others = rw one at (here at f b) in
         let fields-are : wholeFields (drop at run) ≡ fieldAt run f ∷ others = ap (λ (x : Fields). x .whole-ones) (b .fields-are) in
         ap (map seen) reads-are
         ∙ ap₂ (λ (x : ℕ × List ℕ) (xs : List (ℕ × List ℕ)). x ∷ xs) (first-told one) (later left)

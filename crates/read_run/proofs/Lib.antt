@@ -1,3 +1,4 @@
 pub mod Run
 pub mod Counting
+pub mod Errors
 pub mod Claims

@@ -1,32 +1,26 @@
--- A run of reads: whole fields 30, each of flags, low byte first, and bases. Document 01, the tray and the viewer's read list.
+-- The reads of a run of encoded reads, document 01: the tray and the viewer's read list. What a read and a run are is in molecule_fields.
 use mathlib.Core.Path.{_≡_}
 use Prim.Native.Nat.{ℕ, _+_, _-_}
-use mathlib.Core.Bool.{cond, not, _&&_}
+use mathlib.Core.Bool.{cond, not}
 use mathlib.Core.List.{List, [], _∷_}
-use lib.Dec.{eqb, leb}
-use lib.ListN.{length, getD}
-use Rattle.byte_numbers.specs.Bytes.{word}
+use lib.ListN.{length}
 use Rattle.fields.specs.Encoding.{Field, wholeFields, nextField, fieldAt}
 use Rattle.fields.specs.declared.NextField.{NextField}
 use Rattle.fields.specs.declared.NextField.the-variants.{End as End-field, Cut, Whole}
-use Rattle.molecule_fields.specs.Widths.{isRead, isRun}
+use Rattle.molecule_fields.specs.Widths.{isRead, flagsOf, isRun}
 use Rattle.source_reads.specs.declared.SourceRead.{SourceRead}
 use Rattle.read_run.specs.declared.NextRead.{NextRead}
 use Rattle.read_run.specs.declared.NextRead.the-variants.{End, Broken, Read}
 use Rattle.read_run.specs.declared.ReadCount.{ReadCount}
 
--- The first two bytes of a value, low byte first.
-unfoldable pub flagsOf : Field → ℕ
-flagsOf f = word (getD (f .value) 0 0) (getD (f .value) 1 0)
-
--- A field as a read. It begins at a place of a run, with a header of three bytes.
+-- A field as a read, whose value is at a place of the run: its bases follow its flags.
 abbrev pub readOf : ℕ → Field → SourceRead
-readOf at f = record { flags = flagsOf f; offset = at + 3 + 2; length = length (f .value) - 2 }
+readOf offset f = record { flags = flagsOf f; offset = offset + 2; length = length (f .value) - 2 }
 
 -- The reads of some fields whose bytes begin at a place, up to the first field that is none.
 unfoldable pub readsFrom : ℕ → List Field → List SourceRead
 readsFrom at [] = []
-readsFrom at (f ∷ fs) = cond (isRead f) (readOf at f ∷ readsFrom (at + 3 + length (f .value)) fs) []
+readsFrom at (f ∷ fs) = cond (isRead f) (readOf (at + 3) f ∷ readsFrom (at + 3 + length (f .value)) fs) []
 
 unfoldable pub readsOf : List ℕ → List SourceRead
 readsOf run = readsFrom 0 (wholeFields run)
@@ -35,10 +29,7 @@ readsOf run = readsFrom 0 (wholeFields run)
 abbrev pub readAt : List ℕ → NextField → NextRead
 readAt run End-field = End
 readAt run Cut = Broken
-readAt run (Whole f) =
-    cond (eqb (f .tag) 0x30 && leb 2 (f .length))
-    (Read (record { flags = flagsOf (fieldAt run f); offset = f .offset + 2; length = f .length - 2 }) (f .offset + f .length))
-    Broken
+readAt run (Whole f) = cond (isRead (fieldAt run f)) (Read (readOf (f .offset) (fieldAt run f)) (f .offset + f .length)) Broken
 
 unfoldable pub nextRead : List ℕ → ℕ → NextRead
 nextRead run at = readAt run (nextField run at)

@@ -1,22 +1,21 @@
-// A run of reads, as an encoded molecule (the tray of document 01) and the entry points for C have it: whole fields 30 of the
-// tag-length-value encoding, each of flags, low byte first, and bases. A read's bases stay a part of the run.
-// Uses lists, refusals, byte_numbers, fields, molecule_fields and source_reads.
+// The reads of a run: the next one, how many there are, and their errors. A run, as an encoded molecule (the tray of document 01)
+// and the entry points for C have it, is whole fields of the tag-length-value encoding, each a read. A read's bases stay a part of it.
+// Uses lists, refusals, fields, molecule_fields, duplex_molecule and source_reads.
 ghost use mathlib.Core.Path.{_≡_};
-ghost use Rattle.fields.specs.Encoding.{fieldAt};
-ghost use Rattle.read_run.specs.Run.{flagsOf, nextRead, CountedAs};
-use byte_numbers::u16_of;
-use fields::FieldAt;
+ghost use Rattle.source_reads.specs.Reads.{countedErrors};
+ghost use Rattle.read_run.specs.Run.{readsOf, nextRead, CountedAs};
+use duplex_molecule::CtInput;
 use fields::NextField;
 use fields::next_field;
-use lists::at_u8;
-use lists::part_u8;
-use molecule_fields::READ;
+use molecule_fields::is_read;
+use molecule_fields::read_flags;
 use source_reads::SourceRead;
+use source_reads::add_read_errors;
 
 pub enum NextRead {
     // No bytes are left.
     End,
-    // What is left does not begin with a whole field 30 that has flags.
+    // What is left does not begin with a whole field that is a read.
     Broken,
     // A read, and where the next one begins.
     Read { read: SourceRead, next: usize },
@@ -28,14 +27,6 @@ pub struct ReadCount {
     pub count: usize,
 }
 
-// The flags of a read that is a field of the run.
-fn read_flags(run: &[u8], f: FieldAt) -> u16
-    ensures { λ r. ⌜ r ≡ flagsOf (fieldAt (now (run .entry)) f) ⌝ }
-{
-    let value = part_u8(run, f.offset, f.length);
-    u16_of(at_u8(value, 0, 0), at_u8(value, 1, 0))
-}
-
 // The read that begins at a place of a run. A place past the end has none.
 pub fn next_read(run: &[u8], at: usize) -> NextRead
     ensures { λ r. ⌜ r ≡ nextRead (now (run .entry)) at ⌝ }
@@ -44,7 +35,7 @@ pub fn next_read(run: &[u8], at: usize) -> NextRead
         NextField::End => NextRead::End,
         NextField::Cut => NextRead::Broken,
         NextField::Whole(f) => {
-            if (f.tag == READ) & (2 <= f.length) {
+            if is_read(f.tag, f.length) {
                 let flags = read_flags(run, f);
                 let read = SourceRead {
                     flags,
@@ -80,6 +71,43 @@ pub fn count_reads(run: &[u8]) -> ReadCount
             NextRead::Read { read: _, next } => {
                 count += 1;
                 at = next;
+            }
+        }
+    }
+}
+
+// Adds the errors of each read of a run at the first positions: as many as are asked for, and no more than each array has. Of a
+// broken run, the reads before the break count.
+pub fn count_run_errors(
+    run: &[u8],
+    ct: CtInput,
+    positions: usize,
+    a_bases: &[u8],
+    a_quals: &[u8],
+    b_bases: &[u8],
+    b_quals: &[u8],
+    errors: &mut [u16],
+)
+    ensures { λ _. ⌜ now (errors .exit) ≡ countedErrors (readsOf (now (run .entry))) (now (run .entry)) ct positions (now («a_bases» .entry)) (now («a_quals» .entry)) (now («b_bases» .entry)) (now («b_quals» .entry)) (now (errors .entry)) ⌝ }
+{
+    let mut place = 0;
+    loop {
+        match next_read(run, place) {
+            NextRead::End => return,
+            NextRead::Broken => return,
+            NextRead::Read { read, next } => {
+                add_read_errors(
+                    read,
+                    run,
+                    ct,
+                    positions,
+                    a_bases,
+                    a_quals,
+                    b_bases,
+                    b_quals,
+                    errors,
+                );
+                place = next;
             }
         }
     }

@@ -5,7 +5,7 @@ use Rattle.molecule_fields.proofs.length_fits.Tie as tie
 
 returns : tie.Need-returns
 unfolding lengthFits
-returns c = rw (c .is-annotation .ensures)
+returns c = rw (c .before .is-annotation .ensures, c .is-read .ensures)
 
 pub length-fits-spec : {M : Type 1} → statement M
-length-fits-spec = tie.close (tie.spec (λ c κs. tt) returns)
+length-fits-spec = tie.close (tie.spec (λ c κs. tt) (λ c κs. tt) returns)

@@ -1,26 +1,24 @@
--- `run_errors::count_run_errors` meets its contract: the errors of the reads passed are added. Assumes nothing.
+-- `read_run::count_run_errors` meets its contract: the errors of the reads passed are added. Assumes nothing.
 use mathlib.Core.Path.{sym, _∙_}
 use Prim.Native.Nat.{_-_}
 use native.Mathlib.Omega.{arith}
 use borrow.Author.Needs.{needs}
 use denote.Ref.{now}
 use lib.ListN.{length}
 use Rattle.read_run.proofs.Run.{ReadsOn, run-end, run-broken, run-next}
-use Rattle.run_errors.proofs.Counting as Counting
-use Rattle.run_errors.proofs.Counting.{Counting, begin, one-more, done}
-use Rattle.run_errors.proofs.count_run_errors.Statement.{statement}
-use Rattle.run_errors.proofs.count_run_errors.Tie as tie
-use Rattle.run_errors.proofs.count_run_errors.Reads as reads
-use Rattle.run_errors.proofs.count_run_errors.Lts as lts
+use Rattle.read_run.proofs.Errors as Errors
+use Rattle.read_run.proofs.Errors.{Counting, begin, one-more, done}
+use Rattle.read_run.proofs.count_run_errors.Statement.{statement}
+use Rattle.read_run.proofs.count_run_errors.Tie as tie
 
 abbrev Inv-loop : tie.InvT-loop
-Inv-loop run ct positions a-bases a-quals b-bases b-quals errors₀ at₀ errors at = Counting run ct positions a-bases a-quals b-bases b-quals errors₀ errors at
+Inv-loop run ct positions a-bases a-quals b-bases b-quals errors₀ place₀ errors place = Counting run ct positions a-bases a-quals b-bases b-quals errors₀ errors place
 
 abbrev μ-loop : tie.MeasureT-loop
-μ-loop run ct positions a-bases a-quals b-bases b-quals errors₀ at₀ errors at = length run - at
+μ-loop run ct positions a-bases a-quals b-bases b-quals errors₀ place₀ errors place = length run - place
 
 same-length : tie.Need-same-length Inv-loop μ-loop
-same-length c = Counting.same-length (c .before .before .before .loop .inv)
+same-length c = Errors.same-length (c .before .before .before .loop .inv)
 
 returns : tie.Need-returns Inv-loop μ-loop
 returns c =
@@ -28,7 +26,7 @@ returns c =
     done (called .before .loop .inv) (run-end _ _ (sym (called .next-read .ensures) ∙ c .enum-told .given .1))
 
 same-length-2 : tie.Need-same-length-2 Inv-loop μ-loop
-same-length-2 c = Counting.same-length (c .before .before .before .loop .inv)
+same-length-2 c = Errors.same-length (c .before .before .before .loop .inv)
 
 returns-2 : tie.Need-returns-2 Inv-loop μ-loop
 returns-2 c =
@@ -38,7 +36,7 @@ returns-2 c =
 -- The read that begins at the place.
 reads-here :
     (c : tie.After-read Inv-loop μ-loop)
-    → ReadsOn (now (c .before .before .before .before .before .before .before .before .before .before .args .run)) (c .before .before .before .loop .at) (c .read .given .0 .0) (c .read .given .0 .1 .0)
+    → ReadsOn (now (c .before .before .before .before .before .before .before .before .before .before .args .run)) (c .before .before .before .loop .place) (c .read .given .0 .0) (c .read .given .0 .1 .0)
 reads-here c = run-next _ _ (sym (c .before .before .next-read .ensures) ∙ c .read .given .1)
 
 loop-less : tie.Need-loop-less Inv-loop μ-loop
