@@ -1,28 +1,37 @@
--- The text of an answer from the first 1,024 numbers of each array of a strand is that from all. A record of more positions is refused
--- by its gate, whatever its strands are. Assumes nothing.
-use mathlib.Core.Path.{_≡_, refl, sym, ap, subst, _∙_}
+-- A record's report from the first 1,024 numbers of each array of a strand is that from all. A record of more positions is refused by
+-- its gate, whatever its strands are.
+--     from-read     a report from what was read of each array
+--     judged-is     a report from what the gate and the metrics answer
+--     alone, by-made     a report of one strand, and by what was made
+-- Assumes nothing.
+use mathlib.Core.Path.{_≡_, refl, sym, ap, _∙_}
 use mathlib.Core.Bool.{Bool, true, false, cond}
 use mathlib.Core.List.{List, [], _∷_}
-use Prim.Native.Nat.{ℕ, zero, suc, _≤_, _<_}
+use Prim.Native.Nat.{ℕ, zero, suc, _<_}
 use native.Mathlib.Omega.{arith}
 use borrow.Author.Tests.{ltb-true, ltb-false, lt-ltb, ne-eqb}
 use lib.Dec.{eqb, ltb}
 use lib.ListN.{length, take}
 use lib.Seq.{take-take}
 use Rattle.lists.specs.Output.{answer, unless}
+use Rattle.lists.specs.Table.{tabulate}
 use Rattle.refusals.specs.Refusal.{_if_, tooLong, refusal}
 use Rattle.refusals.proofs.Refusal.{and-then}
+use Rattle.byte_numbers.specs.Bytes.{words16}
+use Rattle.byte_numbers.specs.Groups.{byGroup}
 use Rattle.duplex_min_reads.specs.MinReads.{faults, minReads, refused, reachesAll}
 use Rattle.duplex_reads.specs.Reads.{gate}
 use Rattle.duplex_reads.specs.declared.Gate.{Gate}
 use Rattle.duplex_reads.specs.declared.Gate.the-variants.{Refused as Refused-gate, Kept, Below}
 use Rattle.duplex_gate.specs.ConsensusGate.{largestWithin, consensusGate}
 use Rattle.duplex_kind.specs.declared.DuplexConsensus.{DuplexConsensus}
-use Rattle.duplex_kind.specs.declared.DuplexConsensus.the-variants.{Refused, NoRecord, Ab, Ba, Both}
-use Rattle.duplex_metrics.specs.Metrics.{input}
+use Rattle.duplex_metrics.specs.Metrics.{Input, input, metricsOf}
+use Rattle.metrics_bits.specs.Bits.{metricsWords}
 use Rattle.metrics_bits.specs.declared.MetricsWords.{MetricsWords}
-use Rattle.record_line.specs.Line.{gatedText, recordText, answerText, HoldsOf}
-use Rattle.record_line.specs.declared.Line.{Line}
+use Rattle.line_text.specs.declared.Kind.{Kind}
+use Rattle.bytes_line.specs.Report.{Strands, gatedReport, judged, recordReport, reported}
+use Rattle.bytes_line.specs.declared.Report.{Report}
+use Rattle.bytes_line.specs.declared.Report.the-variants.{Refused as Refused-report}
 
 -- The number that refuses a record of over 1,024 positions.
 abbrev longNumber : ℕ → ℕ
@@ -37,57 +46,69 @@ long-gate n ab ba ts h =
     met : tooLong (n ∷ length ab ∷ length ba ∷ []) ≡ true
     met = rw (lt-ltb 1024 n h)
 
--- A refused record's text is the refusal's.
-refused-alike :
-    (made : DuplexConsensus) (i : ℕ) (g g' : Gate) (m m' : MetricsWords) (bases quals errors : List ℕ)
-    → gatedText made (answer Refused-gate (longNumber i) g) m bases quals errors ≡ gatedText made (answer Refused-gate (longNumber i) g') m' bases quals errors
-unfolding gatedText answer unless
-refused-alike made zero g g' m m' bases quals errors = refl
-refused-alike made (suc i) g g' m m' bases quals errors =
+-- Such a gate's refusal is what is reported.
+gate-refused : (kind : Kind) (n i : ℕ) (g : Gate) (m : MetricsWords) → gatedReport kind n (answer Refused-gate (longNumber i) g) m ≡ Refused-report (longNumber i)
+unfolding answer unless
+gate-refused kind n zero g m = refl
+gate-refused kind n (suc i) g m =
     let number : longNumber (suc i) ≡ suc i = ap (λ (none : Bool). cond none 7 (suc i)) (ne-eqb (suc i) 0 (λ e. omega arith)) in
-    subst (λ (k : ℕ). gatedText made (answer Refused-gate k g) m bases quals errors ≡ gatedText made (answer Refused-gate k g') m' bases quals errors) (sym number) refl
+    ap (λ (k : ℕ). gatedReport kind n (answer Refused-gate k g) m) number ∙ ap (λ (k : ℕ). Refused-report k) (sym number)
 
-module _ (made : DuplexConsensus) (n : ℕ) (second : Bool) (a ae b be bases quals errors ts : List ℕ) where
-  abbrev whole : List ℕ
-  whole = recordText made n (input a ae second b be bases errors) quals ts
+long-judged : (kind : Kind) (n : ℕ) (x : Input) (ts : List ℕ) → 1024 < n → judged kind n x ts ≡ Refused-report (longNumber (refused ts))
+unfolding judged
+long-judged kind n x ts h = rw (long-gate n (x .a) (x .b) ts h) (gate-refused kind n (refused ts) _ _)
 
-  abbrev cut : List ℕ
-  cut = recordText made n (input (take 1024 a) (take 1024 ae) second (take 1024 b) (take 1024 be) bases errors) quals ts
+module _ (kind : Kind) (n : ℕ) (second : Bool) (a ae b be bases errors ts : List ℕ) where
+  abbrev whole : Report
+  whole = recordReport kind n (input a ae second b be bases errors) ts
 
-  long-alike : 1024 < n → cut ≡ whole
-  unfolding recordText
-  long-alike h = rw (long-gate n (take n (take 1024 a)) (take n (take 1024 b)) ts h, long-gate n (take n a) (take n b) ts h) (refused-alike made (refused ts) _ _ _ _ _ _ _)
+  abbrev cut : Report
+  cut = judged kind n (input (take n (take 1024 a)) (take n (take 1024 ae)) second (take n (take 1024 b)) (take n (take 1024 be)) (take n bases) (take n errors)) ts
 
-  short-alike : n ≤ 1024 → cut ≡ whole
-  unfolding recordText
-  short-alike h = rw (take-take n 1024 a h, take-take n 1024 ae h, take-take n 1024 b h, take-take n 1024 be h)
-
-  record-alike : cut ≡ whole
-  record-alike = go (ltb 1024 n) refl
+  alike : cut ≡ whole
+  unfolding recordReport
+  alike = go (ltb 1024 n) refl
     where
       go : (long : Bool) → ltb 1024 n ≡ long → cut ≡ whole
-      go true e = long-alike (ltb-true 1024 n e)
-      go false e = short-alike (ltb-false 1024 n e)
+      go true e = long-judged kind n _ ts (ltb-true 1024 n e) ∙ sym (long-judged kind n _ ts (ltb-true 1024 n e))
+      go false e =
+          let h = ltb-false 1024 n e in
+          rw (take-take n 1024 a h, take-take n 1024 ae h, take-take n 1024 b h, take-take n 1024 be h)
 
-pub alike :
-    (made : DuplexConsensus) (ad ae bd be ts bases quals errors : List ℕ)
-    → answerText made (take 1024 ad) (take 1024 ae) (take 1024 bd) (take 1024 be) ts bases quals errors ≡ answerText made ad ae bd be ts bases quals errors
-unfolding answerText
-alike (Refused number) ad ae bd be ts bases quals errors = refl
-alike NoRecord ad ae bd be ts bases quals errors = refl
-alike (Ab n) ad ae bd be ts bases quals errors = record-alike (Ab n) n false ad ae [] [] bases quals errors ts
-alike (Ba n) ad ae bd be ts bases quals errors = record-alike (Ba n) n false bd be [] [] bases quals errors ts
-alike (Both n) ad ae bd be ts bases quals errors = record-alike (Both n) n true ad ae bd be bases quals errors ts
+  -- From what was read of each array.
+  pub from-read :
+      {x y z w : List ℕ} {r : Report}
+      → x ≡ take n (take 1024 a)
+      → y ≡ take n (take 1024 ae)
+      → z ≡ take n (take 1024 b)
+      → w ≡ take n (take 1024 be)
+      → r ≡ judged kind n (input x y second z w (take n bases) (take n errors)) ts
+      → r ≡ whole
+  from-read ex ey ez ew e = e ∙ rw (ex, ey, ez, ew) alike
 
--- A line from what was read of each array is that from all of it.
-pub from-cut :
-    (made : DuplexConsensus) (ad ae bd be ts bases quals errors : List ℕ) {x y z w : List ℕ} {r : Line}
-    → x ≡ take 1024 ad
-    → y ≡ take 1024 ae
-    → z ≡ take 1024 bd
-    → w ≡ take 1024 be
-    → HoldsOf (answerText made x y z w ts bases quals errors) bases quals errors r
-    → HoldsOf (answerText made ad ae bd be ts bases quals errors) bases quals errors r
-from-cut made ad ae bd be ts bases quals errors {x} {y} {z} {w} {r} ex ey ez ew h =
-    let same : answerText made x y z w ts bases quals errors ≡ answerText made ad ae bd be ts bases quals errors = rw (ex, ey, ez, ew) (alike made ad ae bd be ts bases quals errors) in
-    subst (λ (t : List ℕ). HoldsOf t bases quals errors r) same h
+-- What the gate and the metrics answer is what is reported.
+pub judged-is :
+    (kind : Kind) (n : ℕ) (second : Bool) (a ae b be bases errors ts : List ℕ) {bases-front errors-front : List ℕ} {gate : Gate} {metrics : MetricsWords} {r : Report}
+    → bases-front ≡ take n bases
+    → errors-front ≡ take n errors
+    → gate ≡ consensusGate n a b ts
+    → metrics ≡ metricsWords (metricsOf (input a ae second b be bases-front errors-front))
+    → r ≡ gatedReport kind n gate metrics
+    → r ≡ judged kind n (input a ae second b be (take n bases) (take n errors)) ts
+unfolding judged
+judged-is kind n second a ae b be bases errors ts eb ee eg em e = e ∙ rw (eg, em, eb, ee)
+
+-- No bytes are no numbers.
+no-words : words16 [] ≡ []
+unfolding byGroup tabulate
+no-words = refl
+
+-- A record of one strand.
+pub alone :
+    (kind : Kind) (n : ℕ) (a ae bases errors ts : List ℕ) {r : Report}
+    → r ≡ recordReport kind n (input a ae false (words16 []) (words16 []) bases errors) ts
+    → r ≡ recordReport kind n (input a ae false [] [] bases errors) ts
+alone kind n a ae bases errors ts e = e ∙ ap (λ (none : List ℕ). recordReport kind n (input a ae false none none bases errors) ts) no-words
+
+pub by-made : {made : DuplexConsensus} (is : DuplexConsensus) (s : Strands) (ts bases errors : List ℕ) {r : Report} → made ≡ is → r ≡ reported is s ts bases errors → r ≡ reported made s ts bases errors
+by-made is s ts bases errors e h = rw e h

@@ -21,7 +21,8 @@ use Rattle.duplex_min_reads.specs.MinReads.{faults, minReads, refused, validate
 use Rattle.duplex_min_reads.specs.declared.MinReads.{MinReads}
 use Rattle.duplex_min_reads.specs.declared.Validated.{Validated}
 use Rattle.duplex_min_reads.specs.declared.Validated.the-variants.{Refused, Thresholds}
-use Rattle.record_line.specs.Line.{refusedText, Holds}
+use Rattle.line_text.specs.Line.{refusedText}
+use Rattle.record_line.specs.Line.{Holds}
 use Rattle.record_line.specs.declared.Line.{Line}
 use Rattle.duplex_line.specs.Line.{thresholdsOf, numberIn, readText, moleculeText}
 

@@ -16,7 +16,7 @@ use Rattle.duplex_min_reads.specs.MinReads.{refused}
 use Rattle.duplex_min_reads.specs.declared.Validated.{Validated}
 use Rattle.duplex_min_reads.specs.declared.Validated.the-variants.{Refused as Refused-thresholds, Thresholds}
 use Rattle.strand_bytes.specs.Strand.{StrandBytes, annotationOf, strandBytes}
-use Rattle.record_line.specs.Line.{refusedText}
+use Rattle.line_text.specs.Line.{refusedText}
 use Rattle.record_line.specs.declared.Line.{Line}
 use Rattle.strands_line.specs.Strands.{strandsText}
 

@@ -1,5 +1,5 @@
 -- A walk over the fields of a buffer, from one `next_field` to the next: what its answer at a place says of the fields from there on.
---     at-end, at-cut     there are none, and nothing or a cut field is left
+--     at-end, at-cut     there are none (none-at-end, none-at-cut), and nothing or a cut field is left
 --     at-whole           a field, and the fields from its end on
 --     along              induction along a walk
 -- Assumes nothing.
@@ -13,7 +13,7 @@ use borrow.Author.Tests.{le-ltb}
 use lib.ListN.{length, drop, length-append, length-drop}
 use lib.Seq.{take-append-seam, drop-append-seam, drop-drop}
 use Rattle.lists.specs.Part.{leaves, part}
-use Rattle.fields.specs.Encoding.{Field, Front, nothing, cut, whole, front, located, fields, fieldsOf, wholeFields, cutField, nextField, fieldAt}
+use Rattle.fields.specs.Encoding.{Field, Front, nothing, cut, whole, front, located, Fields, fields, fieldsOf, wholeFields, cutField, nextField, fieldAt}
 use Rattle.fields.specs.declared.FieldAt.{FieldAt}
 use Rattle.fields.specs.declared.NextField.{NextField}
 use Rattle.fields.specs.declared.NextField.the-variants.{End, Cut, Whole}
@@ -71,14 +71,20 @@ module _ (bytes : List ℕ) (at : ℕ) where
   pub at-cut : nextField bytes at ≡ Cut → fieldsOf (drop at bytes) ≡ fields [] true
   at-cut e = rw e at told
 
+  -- Either way there are none.
+  pub none-at-end : nextField bytes at ≡ End → wholeFields (drop at bytes) ≡ []
+  none-at-end e = ap (λ (x : Fields). x .whole-ones) (at-end e)
+
+  pub none-at-cut : nextField bytes at ≡ Cut → wholeFields (drop at bytes) ≡ []
+  none-at-cut e = ap (λ (x : Fields). x .whole-ones) (at-cut e)
+
   pub at-whole : {f : FieldAt} → nextField bytes at ≡ Whole f → BeginsAt bytes at f
   at-whole e = rw e at told
 
--- What holds where a walk ends, and at each field where it holds at the field's end, holds at every place.
+-- What holds where no field is left, and at each field where it holds at the field's end, holds at every place.
 module _
     (bytes : List ℕ) (Q : ℕ → Type 0)
-    (none : (at : ℕ) → nextField bytes at ≡ End → Q at)
-    (short : (at : ℕ) → nextField bytes at ≡ Cut → Q at)
+    (none : (at : ℕ) → wholeFields (drop at bytes) ≡ [] → Q at)
     (more : (at : ℕ) (f : FieldAt) → BeginsAt bytes at f → Q (f .offset + f .length) → Q at)
   where
     along-within : (most at : ℕ) → length bytes - at < most → Q at
@@ -86,8 +92,8 @@ module _
     along-within (suc most) at h = go (nextField bytes at) refl (λ next nearer. along-within most next (omega arith))
       where
         go : (r : NextField) → nextField bytes at ≡ r → ((next : ℕ) → length bytes - next < length bytes - at → Q next) → Q at
-        go End e later = none at e
-        go Cut e later = short at e
+        go End e later = none at (none-at-end bytes at e)
+        go Cut e later = none at (none-at-cut bytes at e)
         go (Whole f) e later =
             let b = at-whole bytes at e in
             more at f b (later (f .offset + f .length) (omega (arith, b .header, b .within)))

@@ -10,28 +10,28 @@ use Rattle.text_output.specs.Text as text
 use Rattle.text_output.specs.Text.{ascii}
 use Rattle.metrics_bits.specs.declared.MetricsBits.{MetricsBits}
 use Rattle.metrics_text.specs.MetricsText as metrics
-use Rattle.duplex_kind.specs.declared.DuplexConsensus.the-variants.{Refused, NoRecord, Ba, Both}
-use Rattle.line_text.specs.Line.{header, gateText, columns, fieldsText, lineText}
+use Rattle.line_text.specs.Line.{columns, header, kindText, gateText, columnsText, opening, closing, lineText, noneText, refusedText}
+use Rattle.line_text.specs.declared.Kind.the-variants.{Ba, Both}
 
 figures : MetricsBits
 figures = record { aD = 2; aM = 2; aE = 0; bD = 1; bM = 1; bE = 0; cD = 3; cM = 3; cE = 0x3e2aaaab; nc = 2 }
 
 both-kept :
-    lineText (Both 4) true (ascii "ACNN") (50 ∷ 70 ∷ 2 ∷ 2 ∷ []) (0 ∷ 0 ∷ 1 ∷ 1 ∷ []) figures
+    lineText Both true (columns (ascii "ACNN") (50 ∷ 70 ∷ 2 ∷ 2 ∷ []) (0 ∷ 0 ∷ 1 ∷ 1 ∷ [])) figures
     ≡ ascii "kind gate bases quals errors aD aM aE bD bM bE cD cM cE nc\nboth kept ACNN 50,70,2,2 0,0,1,1 2 2 00000000 1 1 00000000 3 3 3e2aaaab 2\n"
-unfolding figures header gateText columns fieldsText lineText metrics.field metrics.rateField metrics.figuresText metrics.metricsText decimals.listed text.commaList text.visible text.printed decimals.decimal decimals.decimalIn hexadecimals.digitAt hexadecimals.hexadecimal table.tabulate
+unfolding figures header kindText gateText columnsText opening closing lineText metrics.field metrics.rateField metrics.figuresText metrics.metricsText decimals.listed text.commaList text.visible text.printed decimals.decimal decimals.decimalIn hexadecimals.digitAt hexadecimals.hexadecimal table.tabulate
 both-kept = refl
 
 ba-below :
-    lineText (Ba 2) false (65 ∷ 127 ∷ []) (2 ∷ 255 ∷ []) (0 ∷ 32767 ∷ []) figures
+    lineText Ba false (columns (65 ∷ 127 ∷ []) (2 ∷ 255 ∷ []) (0 ∷ 32767 ∷ [])) figures
     ≡ ascii "kind gate bases quals errors aD aM aE bD bM bE cD cM cE nc\nba below A? 2,255 0,32767 2 2 00000000 1 1 00000000 3 3 3e2aaaab 2\n"
-unfolding figures header gateText columns fieldsText lineText metrics.field metrics.rateField metrics.figuresText metrics.metricsText decimals.listed text.commaList text.visible text.printed decimals.decimal decimals.decimalIn hexadecimals.digitAt hexadecimals.hexadecimal table.tabulate
+unfolding figures header kindText gateText columnsText opening closing lineText metrics.field metrics.rateField metrics.figuresText metrics.metricsText decimals.listed text.commaList text.visible text.printed decimals.decimal decimals.decimalIn hexadecimals.digitAt hexadecimals.hexadecimal table.tabulate
 ba-below = refl
 
-no-record : lineText NoRecord false [] [] [] figures ≡ ascii "kind gate bases quals errors aD aM aE bD bM bE cD cM cE nc\nnone\n"
-unfolding header lineText
+no-record : noneText ≡ ascii "kind gate bases quals errors aD aM aE bD bM bE cD cM cE nc\nnone\n"
+unfolding header noneText
 no-record = refl
 
-refused : lineText (Refused 8) true [] [] [] figures ≡ ascii "refused 8\n"
-unfolding lineText decimals.decimal decimals.decimalIn
+refused : refusedText 8 ≡ ascii "refused 8\n"
+unfolding refusedText decimals.decimal decimals.decimalIn
 refused = refl

@@ -1,4 +1,4 @@
--- The text of a record, document 01: what its line program prints.
+-- The texts that document 01's line program prints: of a record, of no record, and of a refusal.
 use Prim.Native.Nat.{ℕ, _*_, _≤_}
 use mathlib.Core.Bool.{Bool, cond}
 use mathlib.Core.List.{List, _++_}
@@ -7,39 +7,60 @@ use Rattle.decimal.specs.Decimal.{decimal}
 use Rattle.text_output.specs.Text.{ascii, commaList, printed}
 use Rattle.metrics_bits.specs.declared.MetricsBits.{MetricsBits}
 use Rattle.metrics_text.specs.MetricsText.{metricsText}
-use Rattle.duplex_kind.specs.declared.DuplexConsensus.{DuplexConsensus}
-use Rattle.duplex_kind.specs.declared.DuplexConsensus.the-variants.{Refused, NoRecord, Ab, Ba, Both}
+use Rattle.line_text.specs.declared.Kind.{Kind}
+use Rattle.line_text.specs.declared.Kind.the-variants.{Ab, Ba, Both}
+
+-- The consensus positions of a record, or the arrays that they stand in.
+pub record Columns : Type 0 where
+  pub bases : List ℕ
+  pub quals : List ℕ
+  pub errors : List ℕ
+
+abbrev pub columns : List ℕ → List ℕ → List ℕ → Columns
+columns bases quals errors = record { bases = bases; quals = quals; errors = errors }
 
 unfoldable pub header : List ℕ
 header = ascii "kind gate bases quals errors aD aM aE bD bM bE cD cM cE nc\n"
+
+-- What a record is made of: strand A, strand B, or both.
+unfoldable pub kindText : Kind → List ℕ
+kindText Ab = ascii "ab"
+kindText Ba = ascii "ba"
+kindText Both = ascii "both"
 
 -- The consensus gate.
 unfoldable pub gateText : Bool → List ℕ
 gateText kept = cond kept (ascii " kept ") (ascii " below ")
 
--- The consensus positions: bases, qualities and errors.
-unfoldable pub columns : List ℕ → List ℕ → List ℕ → List ℕ
-columns bases quals errors = printed bases ++ ascii " " ++ commaList quals ++ ascii " " ++ commaList errors
+unfoldable pub columnsText : Columns → List ℕ
+columnsText c = printed (c .bases) ++ ascii " " ++ commaList (c .quals) ++ ascii " " ++ commaList (c .errors)
 
-unfoldable pub fieldsText : List ℕ → Bool → List ℕ → List ℕ → List ℕ → MetricsBits → List ℕ
-fieldsText kind kept bases quals errors metrics = kind ++ gateText kept ++ columns bases quals errors ++ metricsText metrics
+-- All before the columns, and all after them.
+unfoldable pub opening : Kind → Bool → List ℕ
+opening kind kept = header ++ kindText kind ++ gateText kept
 
--- The header and the line of a record. With no record the line is `none`; a refusal is one line and no header.
-unfoldable pub lineText : DuplexConsensus → Bool → List ℕ → List ℕ → List ℕ → MetricsBits → List ℕ
-lineText (Refused n) kept bases quals errors metrics = ascii "refused " ++ decimal n ++ ascii "\n"
-lineText NoRecord kept bases quals errors metrics = header ++ ascii "none\n"
-lineText (Ab n) kept bases quals errors metrics = header ++ fieldsText (ascii "ab") kept bases quals errors metrics ++ ascii "\n"
-lineText (Ba n) kept bases quals errors metrics = header ++ fieldsText (ascii "ba") kept bases quals errors metrics ++ ascii "\n"
-lineText (Both n) kept bases quals errors metrics = header ++ fieldsText (ascii "both") kept bases quals errors metrics ++ ascii "\n"
+unfoldable pub closing : MetricsBits → List ℕ
+closing metrics = metricsText metrics ++ ascii "\n"
+
+-- The header and the line of a record.
+unfoldable pub lineText : Kind → Bool → Columns → MetricsBits → List ℕ
+lineText kind kept c metrics = opening kind kept ++ columnsText c ++ closing metrics
+
+-- With no record the line is `none`.
+unfoldable pub noneText : List ℕ
+noneText = header ++ ascii "none\n"
+
+-- A refusal is one line and no header.
+unfoldable pub refusedText : ℕ → List ℕ
+refusedText n = ascii "refused " ++ decimal n ++ ascii "\n"
 
 -- At most 1,024 positions.
-pub record Short (b q e : List ℕ) : Type 0 where
-  pub bases : length b ≤ 1024
-  pub quals : length q ≤ 1024
-  pub errors : length e ≤ 1024
+pub record Short (c : Columns) : Type 0 where
+  pub bases : length (c .bases) ≤ 1024
+  pub quals : length (c .quals) ≤ 1024
+  pub errors : length (c .errors) ≤ 1024
 
--- How long the texts of numbers are that fit their types: qualities of 8 bits, errors of 16, the metrics of 32.
-pub record Typed (q e : List ℕ) (m : MetricsBits) : Type 0 where
-  pub quals : length (commaList q) ≤ 4 * length q
-  pub errors : length (commaList e) ≤ 6 * length e
-  pub metrics : length (metricsText m) ≤ 104
+-- How long the texts of numbers are that fit their types: qualities of 8 bits, errors of 16.
+pub record Typed (c : Columns) : Type 0 where
+  pub quals : length (commaList (c .quals)) ≤ 4 * length (c .quals)
+  pub errors : length (commaList (c .errors)) ≤ 6 * length (c .errors)

@@ -1,12 +1,10 @@
-// The text that a record is reported with: a header, and a line of what the record is. Uses decimal, text_output, metrics_bits,
-// metrics_text and duplex_kind.
-ghost use mathlib.Core.List.{_++_};
-ghost use Prim.Native.Nat.{_*_, _≤_};
+// The texts that a record is reported with: a header and a line of what the record is, that there is none, or a refusal. Uses
+// decimal, text_output, metrics_bits and metrics_text.
+ghost use Prim.Native.Nat.{_≤_};
 ghost use lib.ListN.{length};
-ghost use Rattle.decimal.specs.Decimal.{decimal};
-ghost use Rattle.text_output.specs.Text.{ascii, commaList, Written, Appended};
-ghost use Rattle.line_text.specs.Line.{header, gateText, columns, fieldsText, lineText, Typed, Short};
-use duplex_kind::DuplexConsensus;
+ghost use Rattle.text_output.specs.Text.{Written, Appended};
+ghost use Rattle.metrics_text.specs.MetricsText.{metricsText};
+ghost use Rattle.line_text.specs.Line.{columns, kindText, gateText, columnsText, opening, closing, lineText, noneText, refusedText, Short, Typed};
 use metrics_bits::MetricsBits;
 use metrics_text::write_metrics;
 use text_output::write_number;
@@ -21,6 +19,23 @@ pub const HEADER: [u8; 59] = *b"kind gate bases quals errors aD aM aE bD bM bE c
 // The text of a record with at most 1,024 positions is no longer than this.
 pub const LINE_BYTES: usize = 12288;
 
+// What a record is made of: strand A, strand B, or both.
+pub enum Kind {
+    Ab,
+    Ba,
+    Both,
+}
+
+fn write_kind(kind: Kind, out: &mut [u8], at: usize) -> usize
+    ensures { λ r. ⌜ Appended (kindText kind) at (now (out .entry)) (now (out .exit)) r ⌝ }
+{
+    match kind {
+        Kind::Ab => write_text(b"ab", out, at),
+        Kind::Ba => write_text(b"ba", out, at),
+        Kind::Both => write_text(b"both", out, at),
+    }
+}
+
 // The consensus gate's outcome, with a blank on each side.
 fn write_gate(kept: bool, out: &mut [u8], at: usize) -> usize
     ensures { λ r. ⌜ Appended (gateText kept) at (now (out .entry)) (now (out .exit)) r ⌝ }
@@ -31,11 +46,20 @@ fn write_gate(kept: bool, out: &mut [u8], at: usize) -> usize
     write_text(b" below ", out, at)
 }
 
+// The header, and a line up to its columns.
+fn write_opening(kind: Kind, kept: bool, out: &mut [u8]) -> usize
+    ensures { λ r. ⌜ Appended (opening kind kept) 0 (now (out .entry)) (now (out .exit)) r ⌝ }
+{
+    let above = HEADER;
+    let at = write_text(&above, out, 0);
+    let at = write_kind(kind, out, at);
+    write_gate(kept, out, at)
+}
+
 // The consensus positions.
 fn write_columns(bases: &[u8], quals: &[u8], errors: &[u16], out: &mut [u8], at: usize) -> usize
-    ensures { λ r. ⌜ Appended (columns (now (bases .entry)) (now (quals .entry)) (now (errors .entry))) at (now (out .entry)) (now (out .exit)) r ⌝ }
-    ensures { λ _. ⌜ length (commaList (now (quals .entry))) ≤ 4 * length (now (quals .entry)) ⌝ }
-    ensures { λ _. ⌜ length (commaList (now (errors .entry))) ≤ 6 * length (now (errors .entry)) ⌝ }
+    ensures { λ r. ⌜ Appended (columnsText (columns (now (bases .entry)) (now (quals .entry)) (now (errors .entry)))) at (now (out .entry)) (now (out .exit)) r ⌝ }
+    ensures { λ _. ⌜ Typed (columns (now (bases .entry)) (now (quals .entry)) (now (errors .entry))) ⌝ }
 {
     let at = write_printed(bases, out, at);
     let at = write_text(b" ", out, at);
@@ -44,48 +68,39 @@ fn write_columns(bases: &[u8], quals: &[u8], errors: &[u16], out: &mut [u8], at:
     write_u16s(errors, out, at)
 }
 
-// A record of some kind.
-fn write_fields(
-    kind: &[u8],
-    kept: bool,
-    bases: &[u8],
-    quals: &[u8],
-    errors: &[u16],
-    metrics: MetricsBits,
-    out: &mut [u8],
-    at: usize,
-) -> usize
-    ensures { λ r. ⌜ Appended (fieldsText (now (kind .entry)) kept (now (bases .entry)) (now (quals .entry)) (now (errors .entry)) metrics) at (now (out .entry)) (now (out .exit)) r ⌝ }
-    ensures { λ _. ⌜ Typed (now (quals .entry)) (now (errors .entry)) metrics ⌝ }
+// The end of a line, after its columns.
+fn write_closing(metrics: MetricsBits, out: &mut [u8], at: usize) -> usize
+    ensures { λ r. ⌜ Appended (closing metrics) at (now (out .entry)) (now (out .exit)) r ⌝ }
+    ensures { λ _. ⌜ length (metricsText metrics) ≤ 104 ⌝ }
 {
-    let at = write_text(kind, out, at);
-    let at = write_gate(kept, out, at);
-    let at = write_columns(bases, quals, errors, out, at);
-    write_metrics(metrics, out, at)
-}
-
-// The header and the line of a record of some kind.
-fn write_record(
-    kind: &[u8],
-    kept: bool,
-    bases: &[u8],
-    quals: &[u8],
-    errors: &[u16],
-    metrics: MetricsBits,
-    out: &mut [u8],
-) -> usize
-    ensures { λ r. ⌜ Written (header ++ fieldsText (now (kind .entry)) kept (now (bases .entry)) (now (quals .entry)) (now (errors .entry)) metrics ++ ascii "\n") (now (out .entry)) (now (out .exit)) r ⌝ }
-    ensures { λ _. ⌜ Typed (now (quals .entry)) (now (errors .entry)) metrics ⌝ }
-{
-    let above = HEADER;
-    let at = write_text(&above, out, 0);
-    let at = write_fields(kind, kept, bases, quals, errors, metrics, out, at);
+    let at = write_metrics(metrics, out, at);
     write_text(b"\n", out, at)
 }
 
+// Each of these writes as much of its text as there is room for to the front of out, and answers how many bytes that is.
+
+// The header and the line of a record. That of a record with at most 1,024 positions has at most LINE_BYTES.
+pub fn write_record(
+    kind: Kind,
+    kept: bool,
+    bases: &[u8],
+    quals: &[u8],
+    errors: &[u16],
+    metrics: MetricsBits,
+    out: &mut [u8],
+) -> usize
+    ensures { λ r. ⌜ Written (lineText kind kept (columns (now (bases .entry)) (now (quals .entry)) (now (errors .entry))) metrics) (now (out .entry)) (now (out .exit)) r ⌝ }
+    ensures { λ _. ⌜ (Short (columns (now (bases .entry)) (now (quals .entry)) (now (errors .entry))) → length (lineText kind kept (columns (now (bases .entry)) (now (quals .entry)) (now (errors .entry))) metrics) ≤ 12288) ⌝ }
+{
+    let at = write_opening(kind, kept, out);
+    let at = write_columns(bases, quals, errors, out, at);
+    write_closing(metrics, out, at)
+}
+
 // The header, and that there is no record.
-fn write_none(out: &mut [u8]) -> usize
-    ensures { λ r. ⌜ Written (header ++ ascii "none\n") (now (out .entry)) (now (out .exit)) r ⌝ }
+pub fn write_none(out: &mut [u8]) -> usize
+    ensures { λ r. ⌜ Written noneText (now (out .entry)) (now (out .exit)) r ⌝ }
+    ensures { λ _. ⌜ length noneText ≤ 12288 ⌝ }
 {
     let above = HEADER;
     let at = write_text(&above, out, 0);
@@ -93,36 +108,11 @@ fn write_none(out: &mut [u8]) -> usize
 }
 
 // A refusal, with no header.
-fn write_refused(number: u8, out: &mut [u8]) -> usize
-    ensures { λ r. ⌜ Written (ascii "refused " ++ decimal number ++ ascii "\n") (now (out .entry)) (now (out .exit)) r ⌝ }
-    ensures { λ _. ⌜ length (decimal number) ≤ 3 ⌝ }
+pub fn write_refused(number: u8, out: &mut [u8]) -> usize
+    ensures { λ r. ⌜ Written (refusedText number) (now (out .entry)) (now (out .exit)) r ⌝ }
+    ensures { λ _. ⌜ length (refusedText number) ≤ 12288 ⌝ }
 {
     let at = write_text(b"refused ", out, 0);
     let at = write_number(number as u64, out, at);
     write_text(b"\n", out, at)
-}
-
-// Writes as much of the text of a record as there is room for to the front of out, and answers how many bytes that is. The text
-// of a record with at most 1,024 positions has at most LINE_BYTES.
-pub fn write_line(
-    made: DuplexConsensus,
-    kept: bool,
-    bases: &[u8],
-    quals: &[u8],
-    errors: &[u16],
-    metrics: MetricsBits,
-    out: &mut [u8],
-) -> usize
-    ensures { λ r. ⌜ Written (lineText made kept (now (bases .entry)) (now (quals .entry)) (now (errors .entry)) metrics) (now (out .entry)) (now (out .exit)) r ⌝ }
-    ensures { λ _. ⌜ (Short (now (bases .entry)) (now (quals .entry)) (now (errors .entry)) → length (lineText made kept (now (bases .entry)) (now (quals .entry)) (now (errors .entry)) metrics) ≤ 12288) ⌝ }
-{
-    match made {
-        DuplexConsensus::Refused(number) => write_refused(number, out),
-        DuplexConsensus::NoRecord => write_none(out),
-        DuplexConsensus::Ab(_) => write_record(b"ab", kept, bases, quals, errors, metrics, out),
-        DuplexConsensus::Ba(_) => write_record(b"ba", kept, bases, quals, errors, metrics, out),
-        DuplexConsensus::Both(_) => {
-            write_record(b"both", kept, bases, quals, errors, metrics, out)
-        }
-    }
 }

@@ -14,9 +14,8 @@ use lib.Seq.{take-all}
 use Rattle.lists.specs.Every.{every}
 use Rattle.lists.specs.Part.{leaves, part}
 use Rattle.refusals.proofs.Condition.{both-hold}
-use Rattle.fields.specs.Encoding.{Field, wholeFields, cutField, nextField}
+use Rattle.fields.specs.Encoding.{Field, wholeFields, cutField}
 use Rattle.fields.specs.declared.FieldAt.{FieldAt}
-use Rattle.fields.specs.declared.NextField.the-variants.{End, Cut}
 use Rattle.fields.proofs.Walk.{BeginsAt, along}
 use Rattle.molecule_fields.specs.Widths.{strandTag, knownTag, lengthFits, bitsFit, wellFormed, isRead, isRun}
 use Rattle.molecule_encoding.specs.Format.{follows, ascendAfter, accepted, fieldsFit, span, spanFrom, readsAfter, molecule, decoded, valueAt}
@@ -24,7 +23,7 @@ use Rattle.molecule_encoding.specs.declared.Molecule.{Molecule}
 use Rattle.molecule_encoding.specs.declared.Span.{Span}
 use Rattle.molecule_encoding.specs.declared.Decoded.the-variants.{Of}
 use Rattle.molecule_encoding.proofs.Order.{fit-rest}
-use Rattle.molecule_encoding.proofs.Spans.{find-end, find-cut, span-opened}
+use Rattle.molecule_encoding.proofs.Spans.{find-none, span-opened}
 use Rattle.molecule_encoding.proofs.Accepted.{complete-fields, in-parts, reads-present}
 use Rattle.molecule_encoding.proofs.Claims.{accepted-molecule}
 
@@ -87,11 +86,8 @@ module _ (bytes : List ℕ) where
   abbrev Fits-after : ℕ → Type 0
   Fits-after at = (last : ℕ) → fieldsFit last (drop at bytes) ≡ true → marker at .present ≡ true → (marker at .offset + marker at .length ≤ length bytes) × (fieldsFit 0x2f (drop (marker at .offset + marker at .length) bytes) ≡ true)
 
-  fits-end : (at : ℕ) → nextField bytes at ≡ End → Fits-after at
-  fits-end at e last fit present = absurd (true≢false (sym present ∙ ap (λ (s : Span). s .present) (find-end bytes at 0x2f e)))
-
-  fits-cut : (at : ℕ) → nextField bytes at ≡ Cut → Fits-after at
-  fits-cut at e last fit present = absurd (true≢false (sym present ∙ ap (λ (s : Span). s .present) (find-cut bytes at 0x2f e)))
+  fits-none : (at : ℕ) → wholeFields (drop at bytes) ≡ [] → Fits-after at
+  fits-none at e last fit present = absurd (true≢false (sym present ∙ ap (λ (s : Span). s .present) (find-none bytes at 0x2f e)))
 
   fits-whole : (at : ℕ) (f : FieldAt) → BeginsAt bytes at f → Fits-after (f .offset + f .length) → Fits-after at
   fits-whole at f b later last fit present =
@@ -113,7 +109,7 @@ module _ (bytes : List ℕ) where
       go false t p = later (f .tag) rest-fits p
 
   fits-after : Fits-after 0
-  fits-after = along bytes Fits-after fits-end fits-cut fits-whole 0
+  fits-after = along bytes Fits-after fits-none fits-whole 0
 
   all-after : (s : Span) → s .offset + s .length ≤ length bytes → s .present ≡ true → valueAt bytes (readsAfter (length bytes) s) ≡ drop (s .offset + s .length) bytes
   unfolding readsAfter part leaves

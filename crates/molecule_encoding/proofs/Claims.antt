@@ -15,16 +15,15 @@ use lib.ListN.{length, drop}
 use Rattle.lists.specs.Every.{every}
 use Rattle.lists.specs.Part.{leaves, part}
 use Rattle.refusals.proofs.Condition.{both-hold}
-use Rattle.fields.specs.Encoding.{Field, field, IsBytes, Fields, fields, fieldsOf, wholeFields, cutField, nextField, fieldAt}
+use Rattle.fields.specs.Encoding.{Field, field, IsBytes, Fields, fields, fieldsOf, wholeFields, cutField, fieldAt}
 use Rattle.fields.specs.declared.FieldAt.{FieldAt}
-use Rattle.fields.specs.declared.NextField.the-variants.{End, Cut}
 use Rattle.fields.proofs.Fields.{read-back, written}
-use Rattle.fields.proofs.Walk.{BeginsAt, at-end, at-cut, along}
+use Rattle.fields.proofs.Walk.{BeginsAt, along}
 use Rattle.molecule_fields.specs.Widths.{wellFormed}
 use Rattle.molecule_encoding.specs.Format.{has, valid, accepted, absent, span, spanFrom, spanOf, molecule, decoded, EncodesMolecule, valueOf, valueAt}
 use Rattle.molecule_encoding.specs.declared.Molecule.{Molecule}
 use Rattle.molecule_encoding.specs.declared.Decoded.the-variants.{Refused, Of}
-use Rattle.molecule_encoding.proofs.Spans.{find-end, find-cut, span-opened}
+use Rattle.molecule_encoding.proofs.Spans.{span-opened}
 
 absent-value : (bytes : List ℕ) → valueAt bytes absent ≡ []
 unfolding part leaves
@@ -35,17 +34,9 @@ module _ (bytes : List ℕ) (tag : ℕ) where
   abbrev Holds : ℕ → Type 0
   Holds at = valueAt bytes (spanFrom at tag (wholeFields (drop at bytes))) ≡ valueOf tag (wholeFields (drop at bytes))
 
-  holds-end : (at : ℕ) → nextField bytes at ≡ End → Holds at
-  unfolding valueOf
-  holds-end at e =
-      rw (find-end bytes at tag e) (absent-value bytes)
-      ∙ sym (ap (λ (x : Fields). valueOf tag (x .whole-ones)) (at-end bytes at e))
-
-  holds-cut : (at : ℕ) → nextField bytes at ≡ Cut → Holds at
-  unfolding valueOf
-  holds-cut at e =
-      rw (find-cut bytes at tag e) (absent-value bytes)
-      ∙ sym (ap (λ (x : Fields). valueOf tag (x .whole-ones)) (at-cut bytes at e))
+  holds-none : (at : ℕ) → wholeFields (drop at bytes) ≡ [] → Holds at
+  unfolding spanFrom valueOf
+  holds-none at e = rw e (absent-value bytes)
 
   holds-whole : (at : ℕ) (f : FieldAt) → BeginsAt bytes at f → Holds (f .offset + f .length) → Holds at
   unfolding valueOf
@@ -64,7 +55,7 @@ module _ (bytes : List ℕ) (tag : ℕ) where
       go false later = later
 
   pub span-value : valueAt bytes (spanOf tag (wholeFields bytes)) ≡ valueOf tag (wholeFields bytes)
-  span-value = along bytes Holds holds-end holds-cut holds-whole 0
+  span-value = along bytes Holds holds-none holds-whole 0
 
 pub accepts : (bytes : List ℕ) (fs : List Field) → EncodesMolecule bytes fs → decoded bytes ≡ Of (molecule (length bytes) fs)
 unfolding decoded accepted

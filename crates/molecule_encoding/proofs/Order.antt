@@ -70,20 +70,18 @@ others-fit true true false false ev e = absurd (true≢false (sym e))
 others-fit true false wf asc ev e = absurd (true≢false (sym e))
 others-fit false fol wf asc ev e = absurd (true≢false (sym e))
 
+-- What `fieldsFit` asks of some fields.
+abbrev fitting : ℕ → Fields → Bool
+fitting last x = not (x .cut-one) && (ascendAfter last (x .whole-ones) && every wellFormed (x .whole-ones))
+
 module _ (bytes : List ℕ) (at last : ℕ) where
   pub fit-end : nextField bytes at ≡ End → fieldsFit last (drop at bytes) ≡ true
   unfolding fieldsFit ascendAfter every
-  fit-end e = ap fitting (at-end bytes at e)
-    where
-      fitting : Fields → Bool
-      fitting x = not (x .cut-one) && (ascendAfter last (x .whole-ones) && every wellFormed (x .whole-ones))
+  fit-end e = ap (fitting last) (at-end bytes at e)
 
   pub fit-cut : nextField bytes at ≡ Cut → fieldsFit last (drop at bytes) ≡ false
   unfolding fieldsFit
-  fit-cut e = ap fitting (at-cut bytes at e)
-    where
-      fitting : Fields → Bool
-      fitting x = not (x .cut-one) && (ascendAfter last (x .whole-ones) && every wellFormed (x .whole-ones))
+  fit-cut e = ap (fitting last) (at-cut bytes at e)
 
   module _ {f : FieldAt} (b : BeginsAt bytes at f) where
     abbrev rest : List ℕ
@@ -91,10 +89,7 @@ module _ (bytes : List ℕ) (at last : ℕ) where
 
     opened : fieldsFit last (drop at bytes) ≡ (not (cutField rest) && ((follows last (f .tag) && ascendAfter (f .tag) (wholeFields rest)) && (wellFormed (fieldAt bytes f) && every wellFormed (wholeFields rest))))
     unfolding fieldsFit ascendAfter every
-    opened = ap fitting (b .fields-are)
-      where
-        fitting : Fields → Bool
-        fitting x = not (x .cut-one) && (ascendAfter last (x .whole-ones) && every wellFormed (x .whole-ones))
+    opened = ap (fitting last) (b .fields-are)
 
     pub fit-next : (follows last (f .tag) && wellFormed (fieldAt bytes f)) ≡ true → fieldsFit last (drop at bytes) ≡ fieldsFit (f .tag) rest
     unfolding fieldsFit

@@ -11,10 +11,9 @@ use borrow.Author.Tests.{eq-eqb, ne-eqb}
 use lib.Dec.{eqb}
 use lib.ListN.{length, drop}
 use Rattle.refusals.proofs.Condition.{both-hold}
-use Rattle.fields.specs.Encoding.{Field, Fields, wholeFields, nextField}
+use Rattle.fields.specs.Encoding.{Field, Fields, wholeFields}
 use Rattle.fields.specs.declared.FieldAt.{FieldAt}
-use Rattle.fields.specs.declared.NextField.the-variants.{End, Cut}
-use Rattle.fields.proofs.Walk.{BeginsAt, at-end, at-cut}
+use Rattle.fields.proofs.Walk.{BeginsAt}
 use Rattle.molecule_encoding.specs.Format.{follows, ascendAfter, ascending, has, absent, span, spanFrom}
 use Rattle.molecule_encoding.proofs.Order.{not-below, still-ascending}
 
@@ -28,13 +27,9 @@ past last tag at (f ∷ fs) less e =
     rw (ne-eqb (f .tag) tag (λ same. omega arith)) (past (f .tag) tag (at + 3 + length (f .value)) fs above later)
 
 module _ (bytes : List ℕ) (at tag : ℕ) where
-  pub find-end : nextField bytes at ≡ End → spanFrom at tag (wholeFields (drop at bytes)) ≡ absent
+  pub find-none : wholeFields (drop at bytes) ≡ [] → spanFrom at tag (wholeFields (drop at bytes)) ≡ absent
   unfolding spanFrom
-  find-end e = ap (λ (x : Fields). spanFrom at tag (x .whole-ones)) (at-end bytes at e)
-
-  pub find-cut : nextField bytes at ≡ Cut → spanFrom at tag (wholeFields (drop at bytes)) ≡ absent
-  unfolding spanFrom
-  find-cut e = ap (λ (x : Fields). spanFrom at tag (x .whole-ones)) (at-cut bytes at e)
+  find-none e = rw e
 
   module _ {f : FieldAt} (b : BeginsAt bytes at f) where
     abbrev rest : List Field

@@ -14,10 +14,9 @@ use Rattle.lists.specs.Every.{every}
 use Rattle.lists.specs.Part.{leaves, part}
 use Rattle.lists.proofs.Part.{part-after}
 use Rattle.refusals.proofs.Condition.{both-hold}
-use Rattle.fields.specs.Encoding.{Field, Fields, wholeFields, cutField, nextField, fieldAt}
+use Rattle.fields.specs.Encoding.{Field, Fields, wholeFields, cutField, fieldAt}
 use Rattle.fields.specs.declared.FieldAt.{FieldAt}
-use Rattle.fields.specs.declared.NextField.the-variants.{End, Cut}
-use Rattle.fields.proofs.Walk.{BeginsAt, at-end, at-cut, along}
+use Rattle.fields.proofs.Walk.{BeginsAt, along}
 use Rattle.molecule_fields.specs.Widths.{isRead, flagsOf, basesOf, isRun}
 use Rattle.source_reads.specs.Reads.{readLeaves, anyLeaves}
 use Rattle.source_reads.specs.declared.SourceRead.{SourceRead}
@@ -57,17 +56,13 @@ module _ (run : List ℕ) where
         go true t later = stays-too _ _ _ (stays t) later
         go false t later = unfold anyLeaves in refl
 
-  none-at-end : (at : ℕ) → nextField run at ≡ End → Within at
+  within-none : (at : ℕ) → wholeFields (drop at run) ≡ [] → Within at
   unfolding readsFrom anyLeaves
-  none-at-end at e = ap (λ (x : Fields). anyLeaves (length run) (readsFrom at (x .whole-ones))) (at-end run at e)
-
-  none-at-cut : (at : ℕ) → nextField run at ≡ Cut → Within at
-  unfolding readsFrom anyLeaves
-  none-at-cut at e = ap (λ (x : Fields). anyLeaves (length run) (readsFrom at (x .whole-ones))) (at-cut run at e)
+  within-none at e = rw e
 
   pub none-leaves : anyLeaves (length run) (readsOf run) ≡ false
   unfolding readsOf
-  none-leaves = along run Within none-at-end none-at-cut within-whole 0
+  none-leaves = along run Within within-none within-whole 0
 
   -- A read's flags and bases, and those of a field.
   abbrev seen : SourceRead → ℕ × List ℕ
@@ -79,17 +74,9 @@ module _ (run : List ℕ) where
   abbrev Told : ℕ → Type 0
   Told at = isRun (drop at run) ≡ true → map seen (readsFrom at (wholeFields (drop at run))) ≡ map meant (wholeFields (drop at run))
 
-  told-end : (at : ℕ) → nextField run at ≡ End → Told at
+  told-none : (at : ℕ) → wholeFields (drop at run) ≡ [] → Told at
   unfolding readsFrom
-  told-end at e whole =
-      ap (λ (x : Fields). map seen (readsFrom at (x .whole-ones))) (at-end run at e)
-      ∙ sym (ap (λ (x : Fields). map meant (x .whole-ones)) (at-end run at e))
-
-  told-cut : (at : ℕ) → nextField run at ≡ Cut → Told at
-  unfolding readsFrom
-  told-cut at e whole =
-      ap (λ (x : Fields). map seen (readsFrom at (x .whole-ones))) (at-cut run at e)
-      ∙ sym (ap (λ (x : Fields). map meant (x .whole-ones)) (at-cut run at e))
+  told-none at e whole = rw e
 
   module _ (at : ℕ) (f : FieldAt) (b : BeginsAt run at f) where
     -- What is left of a run of reads after its first one.
@@ -119,4 +106,4 @@ module _ (run : List ℕ) where
 
   pub told : isRun run ≡ true → map seen (readsOf run) ≡ map meant (wholeFields run)
   unfolding readsOf
-  told = along run Told told-end told-cut told-whole 0
+  told = along run Told told-none told-whole 0

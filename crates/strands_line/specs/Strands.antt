@@ -12,6 +12,8 @@ use Rattle.duplex_kind.specs.Kind.{kindOf}
 use Rattle.duplex_kind.specs.declared.DuplexConsensus.{DuplexConsensus}
 use Rattle.duplex_kind.specs.declared.DuplexConsensus.the-variants.{Refused}
 use Rattle.duplex_bytes.specs.Bytes.{seen, inputsRefused, bytesRecord}
+use Rattle.line_text.specs.Line.{columns}
+use Rattle.bytes_line.specs.Report.{Counts, counts, strands}
 use Rattle.record_line.specs.Line.{answerText}
 
 unfoldable pub zeros : List ℕ
@@ -27,9 +29,14 @@ answerOf a b listed run = answer Refused (numberOf a b listed run) (kindOf (stra
 abbrev pub recordIn : StrandBytes → StrandBytes → Bool → List ℕ → RecordArrays
 recordIn a b listed run = bytesRecord (seen a) (seen b) listed run
 
+-- The depths and errors of a strand.
+abbrev pub countsOf : StrandBytes → Counts
+countsOf s = counts (words16 (s .depths)) (words16 (s .errors))
+
 unfoldable pub strandsText : List ℕ → StrandBytes → StrandBytes → Bool → List ℕ → List ℕ
 strandsText thresholds a b listed run =
-    answerText (answerOf a b listed run) (words16 (a .depths)) (words16 (a .errors)) (words16 (b .depths)) (words16 (b .errors)) thresholds
+    answerText (answerOf a b listed run) (strands (countsOf a) (countsOf b)) thresholds
+    (columns
     (after (numberOf a b listed run) (recordIn a b listed run .bases) zeros)
     (after (numberOf a b listed run) (recordIn a b listed run .quals) zeros)
-    (after (numberOf a b listed run) (recordIn a b listed run .errors) zeros)
+    (after (numberOf a b listed run) (recordIn a b listed run .errors) zeros))

@@ -1,12 +1,12 @@
 // The text that duplexline prints for two strands given as bytes, once the thresholds are known to be valid. Uses methylation,
-// duplex_kind, duplex_bytes, record_line and bytes_line.
+// duplex_kind, duplex_bytes and record_line.
 ghost use Rattle.record_line.specs.Line.{Holds};
 ghost use Rattle.strand_bytes.specs.Strand.{strandBytes};
 ghost use Rattle.strands_line.specs.Strands.{strandsText};
-use bytes_line::bytes_line;
 use duplex_bytes::duplex_consensus_of_bytes;
 use methylation::Annotation;
 use record_line::Line;
+use record_line::record_line;
 
 // The record of two strands, of one or of none, and its line.
 pub fn strands_line(
@@ -70,7 +70,7 @@ pub fn strands_line(
         &mut b_unconverted,
         &mut b_converted,
     );
-    bytes_line(
+    record_line(
         made,
         a_depths,
         a_errors,

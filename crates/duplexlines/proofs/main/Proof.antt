@@ -18,9 +18,9 @@ main-spec =
     Inv-loop
     μ-loop
     (λ c. omega arith)
-    (λ c κs. search needs)
+    (λ c κs. tt)
     (λ c. search needs)
-    (λ c κs. search needs)
+    (λ c κs. tt)
     (λ c. omega arith)
     (λ c. omega arith)
     (λ c. omega arith)

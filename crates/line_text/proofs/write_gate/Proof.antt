@@ -17,10 +17,10 @@ write-gate-spec =
     tie.close
     (tie.spec
     (λ c. search needs)
-    (λ c κs. search needs)
+    (λ c κs. tt)
     (λ c. search needs)
     returns
     (λ c. search needs)
-    (λ c κs. search needs)
+    (λ c κs. tt)
     (λ c. search needs)
     returns-2)

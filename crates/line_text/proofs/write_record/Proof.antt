@@ -1,26 +1,24 @@
--- `line_text::write_record` meets its contract: the line right behind the header. Assumes nothing.
-use borrow.Author.Needs.{needs}
+-- `line_text::write_record` meets its contract: its columns between what stands before and after them. Assumes nothing.
 use Rattle.text_output.proofs.Text.{then, same-size}
-use Rattle.line_text.specs.Line.{header}
+use Rattle.line_text.specs.Line.{lineText}
+use Rattle.line_text.proofs.Line.{line-most}
 use Rattle.line_text.proofs.write_record.Statement.{statement}
 use Rattle.line_text.proofs.write_record.Tie as tie
 
 returns : tie.Need-returns
-unfolding header
+unfolding lineText
 returns c =
-    ((then (then (c .before .before .before .before .before .before .before .before .before .before .before .write-text .ensures) (c .before .before .before .before .before .before .before .write-fields .ensures .0)) (c .before .before .write-text2 .ensures)) .written, c .before .before .before .before .before .before .before .write-fields .ensures .1)
-
-same-length : tie.Need-same-length
-same-length c = same-size (returns c .0)
+    let closed = c .before .before in
+    let columns = closed .before .before .before .before in
+    let opened = columns .before .before .before .before in
+    ((then (then (opened .write-opening .ensures) (columns .write-columns .ensures .0)) (closed .write-closing .ensures .0)) .written, line-most _ _ _ _ (columns .write-columns .ensures .1) (closed .write-closing .ensures .1))
 
 pub write-record-spec : {M : Type 1} → statement M
 write-record-spec =
     tie.close
     (tie.spec
-    (λ c. search needs)
-    (λ c κs. search needs)
-    (λ c κs. search needs)
-    (λ c. search needs)
-    (λ c κs. search needs)
-    same-length
+    (λ c κs. tt)
+    (λ c κs. tt)
+    (λ c κs. tt)
+    (λ c. same-size (returns c .0))
     returns)

@@ -8,9 +8,9 @@ use borrow.Author.Needs.{needs}
 use denote.Ref.{now}
 use lib.ListN.{length, drop}
 use Rattle.fields.specs.Encoding.{wholeFields}
-use Rattle.fields.proofs.Walk.{BeginsAt, at-whole}
+use Rattle.fields.proofs.Walk.{BeginsAt, none-at-end, none-at-cut, at-whole}
 use Rattle.molecule_encoding.specs.Format.{ascending, spanFrom, spanOf}
-use Rattle.molecule_encoding.proofs.Spans.{find-end, find-cut, find-here, find-past, find-next, ascending-next}
+use Rattle.molecule_encoding.proofs.Spans.{find-none, find-here, find-past, find-next, ascending-next}
 use Rattle.molecule_encoding.proofs.find.Statement.{statement}
 use Rattle.molecule_encoding.proofs.find.Tie as tie
 
@@ -32,12 +32,12 @@ loop-holds c = record { within = omega arith; ascends = c .before .pre; left = r
 returns : tie.Need-returns Inv-loop μ-loop
 returns c =
     let called = c .before .before in
-    (sym (find-end _ _ _ (sym (called .next-field .ensures) ∙ c .enum-told .given .1)) ∙ called .before .loop .inv .left, omega arith)
+    (sym (find-none _ _ _ (none-at-end _ _ (sym (called .next-field .ensures) ∙ c .enum-told .given .1))) ∙ called .before .loop .inv .left, omega arith)
 
 returns-2 : tie.Need-returns-2 Inv-loop μ-loop
 returns-2 c =
     let called = c .before .before in
-    (sym (find-cut _ _ _ (sym (called .next-field .ensures) ∙ c .enum-told2 .given .1)) ∙ called .before .loop .inv .left, omega arith)
+    (sym (find-none _ _ _ (none-at-cut _ _ (sym (called .next-field .ensures) ∙ c .enum-told2 .given .1))) ∙ called .before .loop .inv .left, omega arith)
 
 -- The field that begins at the place.
 begins-here :

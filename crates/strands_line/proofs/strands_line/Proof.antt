@@ -21,7 +21,7 @@ returns c =
     (a .listed) (now (a .run))
     (called .duplex-consensus-of-bytes .ensures)
     (bases .bases2 .given) (quals .quals2 .given) (errors .errors2 .given)
-    (c .bytes-line .ensures)
+    (c .record-line .ensures)
 
 pub strands-line-spec : {M : Type 1} → statement M
 strands-line-spec =

@@ -1,0 +1,17 @@
+-- `record_line::refused_line` meets its contract: the text is written to an array of zeros. Assumes nothing.
+use borrow.Author.Needs.{needs}
+use Rattle.record_line.specs.Line.{blank}
+use Rattle.record_line.proofs.refused_line.Statement.{statement}
+use Rattle.record_line.proofs.refused_line.Tie as tie
+
+returns : tie.Need-returns
+unfolding blank
+returns c = record { written = c .before .write-refused .ensures .0; fits = c .before .write-refused .ensures .1 }
+
+pub refused-line-spec : {M : Type 1} → statement M
+refused-line-spec =
+    tie.close
+    (tie.spec
+    (λ c. search needs)
+    (λ c κs. tt)
+    returns)
