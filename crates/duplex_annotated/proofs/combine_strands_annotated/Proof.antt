@@ -1,6 +1,5 @@
 -- `duplex_annotated::combine_strands_annotated` meets its contract: refused by its number, or each output written, where it has room. Assumes nothing.
 use mathlib.Core.Path.{ap, _∙_}
-use borrow.Author.Needs.{needs}
 use Rattle.lists.proofs.Output.{answer-refused, answer-passed}
 use Rattle.duplex_arrays.proofs.Short.{put-all}
 use Rattle.duplex_evidence.proofs.Kept.{put-kept}
@@ -68,13 +67,13 @@ combine-strands-annotated-spec =
     (λ c κs. tt)
     (λ c κs. tt)
     (λ c κs. tt)
-    (λ c. search needs)
-    (λ c. search needs)
-    (λ c. search needs)
-    (λ c. search needs)
-    (λ c. search needs)
-    (λ c. search needs)
-    (λ c. search needs)
-    (λ c. search needs)
-    (λ c. search needs)
+    (λ c. c .before .before .before .before .before .before .before .before .before .before .before .before .before .before .before .before .before .before .before .before .before .before .before .before .before .before .before .bases-out .given)
+    (λ c. c .before .before .before .before .before .before .before .before .before .before .before .before .before .before .before .before .before .before .before .before .before .before .before .before .before .quals-out .given)
+    (λ c. c .before .before .before .before .before .before .before .before .before .before .before .before .before .before .before .before .before .before .before .before .before .errors-out .given)
+    (λ c. c .before .before .before .before .before .before .before .before .before .before .before .before .before .before .before .a-marks-out .given)
+    (λ c. c .before .before .before .before .before .before .before .before .before .before .before .before .before .a-unconverted-out .given)
+    (λ c. c .before .before .before .before .before .before .before .before .before .before .before .a-converted-out .given)
+    (λ c. c .before .before .before .before .before .b-marks-out .given)
+    (λ c. c .before .before .before .b-unconverted-out .given)
+    (λ c. c .before .b-converted-out .given)
     returns-2)

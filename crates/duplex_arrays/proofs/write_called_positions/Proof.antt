@@ -1,7 +1,6 @@
 -- `duplex_arrays::write_called_positions` meets its contract: nothing where an array is too short, else the outputs of the loop with
 -- calls or without. Assumes nothing.
 use mathlib.Core.Path.{sym, _∙_}
-use borrow.Author.Needs.{needs}
 use Rattle.duplex_molecule.specs.Molecule.{callAt}
 use Rattle.duplex_call.specs.Annotated.{combined}
 use Rattle.duplex_arrays.specs.Positions.{combinedBases, combinedQuals}
@@ -60,10 +59,10 @@ write-called-positions-spec =
     (λ c κs. tt)
     returns
     fill-called-positions-requires
-    (λ c. search needs)
-    (λ c. search needs)
+    (λ c. c .before .before .before .bases-out .given)
+    (λ c. c .before .quals-out .given)
     returns-2
     fill-positions-requires
-    (λ c. search needs)
-    (λ c. search needs)
+    (λ c. c .before .before .before .bases-out2 .given)
+    (λ c. c .before .quals-out2 .given)
     returns-3)

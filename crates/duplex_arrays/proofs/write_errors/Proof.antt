@@ -74,8 +74,8 @@ write-errors-spec =
     returns-2
     (λ c κs. tt)
     fill-called-estimates-requires
-    (λ c. search needs)
+    (λ c. c .before .errors-out2 .given)
     returns-3
     fill-estimates-requires
-    (λ c. search needs)
+    (λ c. c .before .errors-out3 .given)
     returns-4)

@@ -1,6 +1,5 @@
 -- `duplex_arrays::write_positions` meets its contract: nothing where an array is too short, else its loop's outputs. Assumes nothing.
 use mathlib.Core.Path.{sym, _∙_}
-use borrow.Author.Needs.{needs}
 use Rattle.duplex_arrays.proofs.Short.{reached, nothing-written, all-written}
 use Rattle.duplex_arrays.proofs.write_positions.Statement.{statement}
 use Rattle.duplex_arrays.proofs.write_positions.Tie as tie
@@ -31,6 +30,6 @@ write-positions-spec =
     (λ c κs. tt)
     returns
     fill-positions-requires
-    (λ c. search needs)
-    (λ c. search needs)
+    (λ c. c .before .before .before .bases-out .given)
+    (λ c. c .before .quals-out .given)
     returns-2)

@@ -1,6 +1,5 @@
 -- `duplex_strands::combine_strands` meets its contract: refused by its number, or each output written, where it has room. Assumes nothing.
 use mathlib.Core.Path.{refl, ap, _∙_}
-use borrow.Author.Needs.{needs}
 use Rattle.lists.specs.Output.{put}
 use Rattle.lists.specs.Part.{onlyIf}
 use Rattle.lists.proofs.Output.{answer-refused, answer-passed}
@@ -46,7 +45,7 @@ combine-strands-spec =
     (λ c κs. tt)
     (λ c κs. tt)
     (λ c κs. tt)
-    (λ c. search needs)
-    (λ c. search needs)
-    (λ c. search needs)
+    (λ c. c .before .before .before .before .before .before .before .bases-out .given)
+    (λ c. c .before .before .before .before .before .quals-out .given)
+    (λ c. c .before .errors-out .given)
     returns-2)
