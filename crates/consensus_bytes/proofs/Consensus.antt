@@ -20,16 +20,14 @@ use Rattle.refusals.proofs.Refusal.{and-then}
 use Rattle.byte_numbers.specs.Bytes.{bytesOfAll}
 use Rattle.byte_numbers.specs.Groups.{joined}
 use Rattle.evidence_bytes.specs.Evidence.{evidenceBytes}
-use Rattle.methylation.specs.Arrays.{EvidenceArrays, evidenceArrays, LeavesEvidence}
+use Rattle.methylation.specs.Arrays.{EvidenceArrays, evidenceArrays, evidencePlaces, PutsEvidence, LeavesEvidence}
 use Rattle.methylation.specs.Methylation.{isAnnotated}
-use Rattle.methylation.proofs.Arrays.{PutsEvidence}
 use Rattle.vanilla_caller.specs.Strand.{lengths}
 use Rattle.vanilla_caller.proofs.Strand.{even}
 use Rattle.duplex_outputs.specs.Outputs.{RecordArrays, recordOf, recordLengths, recordTooShort, LeavesRecord}
 use Rattle.duplex_outputs.specs.declared.RecordLengths.{RecordLengths}
 use Rattle.duplex_outputs.proofs.Outputs.{PutsRecord}
 use Rattle.duplex_strands.specs.Combine.{combinedBases, combinedQuals, combinedErrors, estimates, keptMarks, keptUnconverted, keptConverted}
-use Rattle.duplex_single.specs.Single.{marksGated, unconvertedGated, convertedGated}
 use Rattle.duplex_kind.specs.Kind.{Strand, annotated, positions, kindOf, givenFaults, strandFaults}
 use Rattle.duplex_kind.specs.declared.DuplexConsensus.{DuplexConsensus}
 use Rattle.duplex_kind.specs.declared.DuplexConsensus.the-variants.{Refused, NoRecord, Ab, Ba, Both}
@@ -39,7 +37,7 @@ use Rattle.read_run.specs.Run.{readsOf}
 use Rattle.strand_bytes.specs.Strand.{StrandBytes, strandOf}
 use Rattle.duplex_bytes.specs.Bytes.{broken, bytesFaults, bytesRefused, inputsRefused, bytesRecord, BytesAs}
 use Rattle.duplex_bytes.proofs.Ample.{zeros-ample, inputs-alone}
-use Rattle.record_bytes.specs.Outputs.{RecordBytes, asArrays, writtenOf, shortFor, outputsRefused, evidencePlaces, evidenceFronts, fronts, WrittenAs}
+use Rattle.record_bytes.specs.Outputs.{RecordBytes, asArrays, writtenOf, shortFor, outputsRefused, evidenceFronts, fronts, WrittenAs}
 use Rattle.record_bytes.specs.declared.Written.{Written}
 use Rattle.consensus_bytes.specs.Consensus.{ConsensusBytesAs}
 
@@ -86,7 +84,7 @@ module _ (a b : Strand) (listed : Bool) (counted : ℕ → ℕ) (count : ℕ) wh
   made-of k = recordArrays a b listed counted k
 
   sized : (k : DuplexConsensus) → refusal (strandFaults a b listed count false) ≡ 0 → kindOf a b ≡ k → Sized (writtenOf (annotated a) (annotated b) k) (made-of k)
-  unfolding combinedBases combinedQuals combinedErrors estimates keptMarks keptUnconverted keptConverted marksGated unconvertedGated convertedGated
+  unfolding combinedBases combinedQuals combinedErrors estimates keptMarks keptUnconverted keptConverted
   sized (Refused m) z e = record { bases = refl; quals = refl; errors = refl; a = none-sized; b = none-sized }
   sized NoRecord z e = record { bases = refl; quals = refl; errors = refl; a = none-sized; b = none-sized }
   sized (Ab m) z e =

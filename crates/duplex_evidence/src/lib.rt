@@ -1,13 +1,11 @@
 // The evidence of a strand in a two-strand record, position by position, from duplex_caller.rs (combine_strands). Uses lists,
 // refusals, methylation, vanilla_caller, duplex_molecule, duplex_call and duplex_arrays.
 ghost use mathlib.Core.Path.{_≡_};
-ghost use mathlib.Core.Bool.{false, cond};
+ghost use mathlib.Core.Bool.{false};
 ghost use mathlib.Core.List.{[], _∷_};
 ghost use Prim.Native.Nat.{_≤_};
 ghost use lib.ListN.{length};
-ghost use Rattle.lists.specs.Output.{put};
-ghost use Rattle.lists.specs.Table.{tabulate};
-ghost use Rattle.methylation.specs.Methylation.{isAnnotated};
+ghost use Rattle.methylation.specs.Arrays.{evidenceArrays, evidenceTable, PutsEvidence};
 ghost use Rattle.vanilla_caller.specs.Strand.{arrays};
 ghost use Rattle.duplex_arrays.specs.Positions.{arraysShort};
 ghost use Rattle.duplex_evidence.specs.Kept.{evidenceOf, EvidenceAs};
@@ -15,6 +13,7 @@ use duplex_call::keeps_evidence;
 use duplex_molecule::CtInput;
 use methylation::Annotation;
 use methylation::evidence_if;
+use methylation::evidence_places;
 use methylation::is_annotated;
 
 // Whether one of these lengths is below n.
@@ -37,13 +36,6 @@ fn evidence_short(
                     | ((marks_out < n) | ((unconverted_out < n) | (converted_out < n))))))
 }
 
-// How many places of evidence are written.
-fn evidence_places(annotation: Annotation, n: usize) -> usize
-    ensures { λ r. ⌜ r ≡ cond (isAnnotated annotation) n 0 ⌝ }
-{
-    if is_annotated(annotation) { n } else { 0 }
-}
-
 // The evidence at each of the first so many positions.
 fn fill_evidence(
     annotation: Annotation,
@@ -60,9 +52,10 @@ fn fill_evidence(
     requires { ⌜ (places ≤ length (now «a_bases»)) × (places ≤ length (now «b_bases»)) ⌝ }
     requires { ⌜ (places ≤ length (now unconverted)) × (places ≤ length (now converted)) ⌝ }
     requires { ⌜ (places ≤ length (now «marks_out»)) × (places ≤ length (now «unconverted_out»)) × (places ≤ length (now «converted_out»)) ⌝ }
-    ensures { λ _. ⌜ now («marks_out» .exit) ≡ put (tabulate places (λ i. evidenceOf ct (arrays (now («a_bases» .entry)) [] [] [] [] [] []) (arrays (now («b_bases» .entry)) [] [] [] [] [] []) annotation (arrays [] [] [] [] [] (now (unconverted .entry)) (now (converted .entry))) i .mark)) (now («marks_out» .entry)) ⌝ }
-    ensures { λ _. ⌜ now («unconverted_out» .exit) ≡ put (tabulate places (λ i. evidenceOf ct (arrays (now («a_bases» .entry)) [] [] [] [] [] []) (arrays (now («b_bases» .entry)) [] [] [] [] [] []) annotation (arrays [] [] [] [] [] (now (unconverted .entry)) (now (converted .entry))) i .unconverted)) (now («unconverted_out» .entry)) ⌝ }
-    ensures { λ _. ⌜ now («converted_out» .exit) ≡ put (tabulate places (λ i. evidenceOf ct (arrays (now («a_bases» .entry)) [] [] [] [] [] []) (arrays (now («b_bases» .entry)) [] [] [] [] [] []) annotation (arrays [] [] [] [] [] (now (unconverted .entry)) (now (converted .entry))) i .converted)) (now («converted_out» .entry)) ⌝ }
+    ensures { λ _. ⌜ PutsEvidence
+        (evidenceTable places (evidenceOf ct (arrays (now («a_bases» .entry)) [] [] [] [] [] []) (arrays (now («b_bases» .entry)) [] [] [] [] [] []) annotation (arrays [] [] [] [] [] (now (unconverted .entry)) (now (converted .entry)))))
+        (evidenceArrays (now («marks_out» .entry)) (now («unconverted_out» .entry)) (now («converted_out» .entry)))
+        (evidenceArrays (now («marks_out» .exit)) (now («unconverted_out» .exit)) (now («converted_out» .exit))) ⌝ }
 {
     let mut i = 0;
     while i < places {
@@ -108,7 +101,7 @@ pub fn write_evidence(
     ) {
         return;
     }
-    let places = evidence_places(annotation, n);
+    let places = evidence_places(is_annotated(annotation), n);
     fill_evidence(
         annotation,
         ct,

@@ -10,8 +10,8 @@ use Rattle.lists.specs.Output.{put}
 use Rattle.lists.proofs.Output.{after-refused, after-passed}
 use Rattle.refusals.specs.Refusal.{tooShort}
 use Rattle.refusals.proofs.Condition.{Every, nor-where, not-too-short}
-use Rattle.methylation.specs.Arrays.{three, evidenceTooShort}
-use Rattle.methylation.proofs.Arrays.{evidence-refused, PutsEvidence, evidence-put}
+use Rattle.methylation.specs.Arrays.{three, evidenceTooShort, PutsEvidence}
+use Rattle.methylation.proofs.Arrays.{evidence-refused, evidence-put}
 use Rattle.duplex_outputs.specs.Outputs.{RecordArrays, ownLengths, recordTooShort, LeavesRecord}
 use Rattle.duplex_outputs.specs.declared.RecordLengths.{RecordLengths}
 

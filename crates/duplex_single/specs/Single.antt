@@ -1,50 +1,29 @@
 -- One strand alone as a record, document 01: its arrays copied untruncated, evidence cleared where not informative.
 use Prim.Native.Nat.{ℕ}
 use mathlib.Core.Path.{_≡_}
-use mathlib.Core.Bool.{false, not}
+use mathlib.Core.Bool.{false}
 use mathlib.Core.List.{List, [], _∷_}
-use lib.Dec.{eqb}
-use lib.ListN.{length, getD}
+use lib.ListN.{length}
 use Rattle.lists.specs.Output.{answer}
-use Rattle.lists.specs.Part.{onlyIf}
-use Rattle.lists.specs.Table.{tabulate}
 use Rattle.refusals.specs.Refusal.{Fault, _if_, refusal}
-use Rattle.methylation.specs.Arrays.{evidenceArrays}
-use Rattle.methylation.specs.Methylation.{isAnnotated, evidenceIf}
+use Rattle.methylation.specs.Arrays.{evidenceArrays, evidenceOnlyIf}
+use Rattle.methylation.specs.Methylation.{isAnnotated}
 use Rattle.methylation.specs.declared.Annotation.{Annotation}
-use Rattle.methylation.specs.declared.Evidence.{Evidence}
 use Rattle.vanilla_caller.specs.Strand.{Arrays, lengths, strandTooLong, strandRagged}
 use Rattle.vanilla_caller.specs.declared.Lengths.{Lengths}
+use Rattle.methylation_evidence.specs.Gate.{gated}
 use Rattle.duplex_outputs.specs.Outputs.{RecordArrays, recordLengths, recordTooShort, LeavesRecord}
 use Rattle.duplex_outputs.specs.declared.RecordLengths.{RecordLengths}
 use Rattle.duplex_single.specs.declared.SingleStrandRecord.{SingleStrandRecord}
 use Rattle.duplex_single.specs.declared.SingleStrandRecord.the-variants.{Refused, Written}
 
--- An annotation's evidence at position i, clear where it is not informative.
-abbrev pub gatedEvidence : List ℕ → List ℕ → List ℕ → ℕ → Evidence
-gatedEvidence marks unconverted converted i = evidenceIf (not (eqb (getD marks i 0) 0)) (getD unconverted i 0) (getD converted i 0)
-
--- The first n positions of an annotation's marks and counts.
-unfoldable pub marksGated : ℕ → List ℕ → List ℕ → List ℕ → List ℕ
-marksGated n marks unconverted converted = tabulate n (λ i. gatedEvidence marks unconverted converted i .mark)
-
-unfoldable pub unconvertedGated : ℕ → List ℕ → List ℕ → List ℕ → List ℕ
-unconvertedGated n marks unconverted converted = tabulate n (λ i. gatedEvidence marks unconverted converted i .unconverted)
-
-unfoldable pub convertedGated : ℕ → List ℕ → List ℕ → List ℕ → List ℕ
-convertedGated n marks unconverted converted = tabulate n (λ i. gatedEvidence marks unconverted converted i .converted)
-
--- Evidence is written where there is an annotation.
-abbrev pub gated : (ℕ → List ℕ → List ℕ → List ℕ → List ℕ) → Annotation → Arrays → List ℕ
-gated of annotation s = onlyIf (isAnnotated annotation) (of (length (s .bases)) (s .evidence .marks) (s .evidence .unconverted) (s .evidence .converted))
-
--- What is written of a strand alone. It is stored as the first strand; there is no second.
+-- What is written of a strand alone: evidence where there is an annotation. It is stored as the first strand; there is no second.
 abbrev pub singleArrays : Annotation → Arrays → RecordArrays
 singleArrays annotation s = record {
   bases = s .bases;
   quals = s .quals;
   errors = s .errors;
-  a = evidenceArrays (gated marksGated annotation s) (gated unconvertedGated annotation s) (gated convertedGated annotation s);
+  a = evidenceOnlyIf (isAnnotated annotation) (gated (length (s .bases)) (s .evidence));
   b = evidenceArrays [] [] [];
 }
 

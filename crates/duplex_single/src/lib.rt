@@ -1,16 +1,15 @@
-// One strand alone as a duplex record, from duplex_caller.rs and methylation.rs. Uses lists, refusals, methylation, vanilla_caller
-// and duplex_outputs.
+// One strand alone as a duplex record, from duplex_caller.rs and methylation.rs. Uses lists, refusals, methylation, vanilla_caller,
+// methylation_evidence and duplex_outputs.
 ghost use mathlib.Core.Path.{_≡_};
-ghost use mathlib.Core.Bool.{cond};
 ghost use mathlib.Core.List.{[]};
 ghost use Prim.Native.Nat.{_≤_};
 ghost use lib.ListN.{length};
-ghost use Rattle.lists.specs.Output.{put};
 ghost use Rattle.refusals.specs.Refusal.{refusal};
-ghost use Rattle.methylation.specs.Methylation.{isAnnotated};
+ghost use Rattle.methylation.specs.Arrays.{evidenceArrays, PutsEvidence};
+ghost use Rattle.methylation_evidence.specs.Gate.{gated};
 ghost use Rattle.vanilla_caller.specs.Strand.{arrays};
 ghost use Rattle.duplex_outputs.specs.Outputs.{recordOf};
-ghost use Rattle.duplex_single.specs.Single.{marksGated, unconvertedGated, convertedGated, singleFaults, SingleAs};
+ghost use Rattle.duplex_single.specs.Single.{singleFaults, SingleAs};
 use duplex_outputs::RecordLengths;
 use duplex_outputs::record_too_short;
 use lists::copy_u8;
@@ -18,6 +17,7 @@ use lists::copy_u16;
 use methylation::Annotation;
 use methylation::EvidenceLengths;
 use methylation::evidence_if;
+use methylation::evidence_places;
 use methylation::is_annotated;
 use refusals::OUTPUT_TOO_SHORT;
 use refusals::RAGGED;
@@ -48,19 +48,8 @@ fn single_refusal(annotation: Annotation, strand: Lengths, out: RecordLengths) -
     )
 }
 
-// How many places of evidence are written.
-fn evidence_places(annotation: Annotation, positions: usize) -> usize
-    ensures { λ r. ⌜ r ≡ cond (isAnnotated annotation) positions 0 ⌝ }
-{
-    if is_annotated(annotation) {
-        positions
-    } else {
-        0
-    }
-}
-
 // Writes evidence, clear where it is not informative.
-fn gate_to_informative(
+fn write_gated(
     places: usize,
     marks: &[u8],
     unconverted: &[u32],
@@ -72,9 +61,10 @@ fn gate_to_informative(
     requires { ⌜ (places ≤ length (now marks)) × (places ≤ length (now «marks_out»)) ⌝ }
     requires { ⌜ (places ≤ length (now unconverted)) × (places ≤ length (now «unconverted_out»)) ⌝ }
     requires { ⌜ (places ≤ length (now converted)) × (places ≤ length (now «converted_out»)) ⌝ }
-    ensures { λ _. ⌜ now («marks_out» .exit) ≡ put (marksGated places (now (marks .entry)) (now (unconverted .entry)) (now (converted .entry))) (now («marks_out» .entry)) ⌝ }
-    ensures { λ _. ⌜ now («unconverted_out» .exit) ≡ put (unconvertedGated places (now (marks .entry)) (now (unconverted .entry)) (now (converted .entry))) (now («unconverted_out» .entry)) ⌝ }
-    ensures { λ _. ⌜ now («converted_out» .exit) ≡ put (convertedGated places (now (marks .entry)) (now (unconverted .entry)) (now (converted .entry))) (now («converted_out» .entry)) ⌝ }
+    ensures { λ _. ⌜ PutsEvidence
+        (gated places (evidenceArrays (now (marks .entry)) (now (unconverted .entry)) (now (converted .entry))))
+        (evidenceArrays (now («marks_out» .entry)) (now («unconverted_out» .entry)) (now («converted_out» .entry)))
+        (evidenceArrays (now («marks_out» .exit)) (now («unconverted_out» .exit)) (now («converted_out» .exit))) ⌝ }
 {
     let mut i = 0;
     while i < places {
@@ -133,8 +123,8 @@ pub fn gated_single_strand(
     copy_u8(bases, bases_out);
     copy_u8(quals, quals_out);
     copy_u16(errors, errors_out);
-    let places = evidence_places(annotation, bases.len());
-    gate_to_informative(
+    let places = evidence_places(is_annotated(annotation), bases.len());
+    write_gated(
         places,
         marks,
         unconverted,

@@ -7,10 +7,9 @@ use mathlib.Core.Path.{_≡_, sym, _∙_}
 use mathlib.Core.Bool.{false}
 use mathlib.Core.List.{[], _∷_}
 use Prim.Native.Nat.{ℕ, _≤_}
-use Rattle.lists.specs.Output.{put}
 use Rattle.lists.proofs.Output.{after-refused, after-passed}
 use Rattle.refusals.proofs.Condition.{Every, not-ragged, not-too-short}
-use Rattle.methylation.specs.Arrays.{EvidenceArrays, three, evidenceRagged, evidenceUneven, evidenceTooShort, LeavesEvidence}
+use Rattle.methylation.specs.Arrays.{EvidenceArrays, three, evidenceRagged, evidenceUneven, evidenceTooShort, PutsEvidence, LeavesEvidence}
 use Rattle.methylation.specs.declared.EvidenceLengths.{EvidenceLengths}
 
 pub evidence-refused : {written before : EvidenceArrays} {n number : ℕ} → n ≡ number → (n ≡ 0 → ⊥) → LeavesEvidence number written before before
@@ -24,12 +23,6 @@ pub evidence-passed : {written before now : EvidenceArrays} {n number : ℕ} →
 evidence-passed {written} {before} {now} {n} {number} e z l =
     let zero : number ≡ 0 = sym e ∙ z in
     rw zero l
-
--- Every array has its own written to its front.
-pub record PutsEvidence (written before now : EvidenceArrays) : Type 0 where
-  pub marks : now .marks ≡ put (written .marks) (before .marks)
-  pub unconverted : now .unconverted ≡ put (written .unconverted) (before .unconverted)
-  pub converted : now .converted ≡ put (written .converted) (before .converted)
 
 pub evidence-put : {written before now : EvidenceArrays} {n number : ℕ} → n ≡ number → n ≡ 0 → PutsEvidence written before now → LeavesEvidence number written before now
 evidence-put e z p = record {

@@ -1,12 +1,15 @@
 -- An annotation's evidence as arrays, document 01: per position an informative mark (0 no, any other byte yes) and two counts.
 use Prim.Native.Nat.{ℕ}
 use mathlib.Core.Path.{_≡_}
-use mathlib.Core.Bool.{Bool, not}
+use mathlib.Core.Bool.{Bool, not, cond}
 use mathlib.Core.List.{List, [], _∷_}
 use lib.Dec.{eqb}
 use lib.ListN.{length}
-use Rattle.lists.specs.Output.{after}
+use Rattle.lists.specs.Output.{put, after}
+use Rattle.lists.specs.Part.{onlyIf}
+use Rattle.lists.specs.Table.{tabulate}
 use Rattle.refusals.specs.Refusal.{tooLong, ragged, tooShort}
+use Rattle.methylation.specs.declared.Evidence.{Evidence}
 use Rattle.methylation.specs.declared.EvidenceLengths.{EvidenceLengths}
 
 -- The arrays of an annotation, or those lent for one.
@@ -17,6 +20,17 @@ pub record EvidenceArrays : Type 0 where
 
 abbrev pub evidenceArrays : List ℕ → List ℕ → List ℕ → EvidenceArrays
 evidenceArrays m u c = record { marks = m; unconverted = u; converted = c }
+
+-- Evidence by position, of n positions.
+abbrev pub evidenceTable : ℕ → (ℕ → Evidence) → EvidenceArrays
+evidenceTable n of = evidenceArrays (tabulate n (λ i. of i .mark)) (tabulate n (λ i. of i .unconverted)) (tabulate n (λ i. of i .converted))
+
+-- Evidence is written of every position, or of none.
+abbrev pub evidenceOnlyIf : Bool → EvidenceArrays → EvidenceArrays
+evidenceOnlyIf there e = evidenceArrays (onlyIf there (e .marks)) (onlyIf there (e .unconverted)) (onlyIf there (e .converted))
+
+abbrev pub evidencePlaces : Bool → ℕ → ℕ
+evidencePlaces there n = cond there n 0
 
 -- How long each is.
 abbrev pub evidenceLengths : EvidenceArrays → EvidenceLengths
@@ -44,6 +58,12 @@ evidenceUneven n e = ragged (n ∷ three e)
 -- Row 12's, for outputs to which n positions go.
 unfoldable pub evidenceTooShort : ℕ → EvidenceLengths → Bool
 evidenceTooShort n out = tooShort n (three out)
+
+-- Every array has its own written to its front.
+pub record PutsEvidence (written before now : EvidenceArrays) : Type 0 where
+  pub marks : now .marks ≡ put (written .marks) (before .marks)
+  pub unconverted : now .unconverted ≡ put (written .unconverted) (before .unconverted)
+  pub converted : now .converted ≡ put (written .converted) (before .converted)
 
 -- What a call leaves in the arrays lent for evidence, where it was refused with a number (0: not refused) or else writes these.
 pub record LeavesEvidence (number : ℕ) (written before now : EvidenceArrays) : Type 0 where

@@ -1,7 +1,7 @@
 // Methylation: chemistries, conversion patterns, annotations and their evidence, from methylation.rs and lib.rs. Uses lists,
 // refusals, dna and flags.
 ghost use mathlib.Core.Path.{_≡_};
-ghost use Rattle.methylation.specs.Arrays.{evidenceArrays, evidenceLengths, evidenceTooLong, evidenceRagged, evidenceUneven, evidenceTooShort};
+ghost use Rattle.methylation.specs.Arrays.{evidenceArrays, evidencePlaces, evidenceLengths, evidenceTooLong, evidenceRagged, evidenceUneven, evidenceTooShort};
 ghost use Rattle.methylation.specs.Methylation.{isEnabled, patternOfFlags, patternBases, isAnnotated, isCg, isCpgContext, evidenceIf};
 use dna::eq_ignore_ascii_case;
 use flags::LAST_SEGMENT;
@@ -145,6 +145,13 @@ pub fn evidence_if(kept: bool, unconverted: u32, converted: u32) -> Evidence
         unconverted: 0,
         converted: 0,
     }
+}
+
+// How many places of evidence are written, of n positions: all, or none.
+pub fn evidence_places(there: bool, n: usize) -> usize
+    ensures { λ r. ⌜ r ≡ evidencePlaces there n ⌝ }
+{
+    if there { n } else { 0 }
 }
 
 pub fn evidence_lengths(marks: &[u8], unconverted: &[u32], converted: &[u32]) -> EvidenceLengths

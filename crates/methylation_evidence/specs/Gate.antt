@@ -4,11 +4,10 @@ use mathlib.Core.Path.{_≡_}
 use mathlib.Core.List.{List, [], _∷_}
 use lib.ListN.{length, getD}
 use Rattle.lists.specs.Output.{answer}
-use Rattle.lists.specs.Table.{tabulate}
 use Rattle.refusals.specs.Refusal.{Fault, _if_, refusal}
 use Rattle.methylation.specs.Methylation.{evidenceIf}
 use Rattle.methylation.specs.declared.Evidence.{Evidence}
-use Rattle.methylation.specs.Arrays.{EvidenceArrays, evidenceLengths, informative, evidenceTooLong, evidenceRagged, LeavesEvidence}
+use Rattle.methylation.specs.Arrays.{EvidenceArrays, evidenceTable, evidenceLengths, informative, evidenceTooLong, evidenceRagged, LeavesEvidence}
 use Rattle.methylation.specs.declared.EvidenceLengths.{EvidenceLengths}
 use Rattle.methylation_evidence.specs.declared.Positions.{Positions}
 use Rattle.methylation_evidence.specs.declared.Positions.the-variants.{Refused, Written}
@@ -17,15 +16,9 @@ use Rattle.methylation_evidence.specs.declared.Positions.the-variants.{R
 abbrev pub gatedAt : EvidenceArrays → ℕ → Evidence
 gatedAt e i = evidenceIf (informative (getD (e .marks) i 0)) (getD (e .unconverted) i 0) (getD (e .converted) i 0)
 
--- At every position.
-unfoldable pub gated : EvidenceArrays → EvidenceArrays
-gated e =
-    let n = length (e .marks) in
-    record {
-      marks = tabulate n (λ i. gatedAt e i .mark);
-      unconverted = tabulate n (λ i. gatedAt e i .unconverted);
-      converted = tabulate n (λ i. gatedAt e i .converted);
-    }
+-- At each of n positions.
+abbrev pub gated : ℕ → EvidenceArrays → EvidenceArrays
+gated n e = evidenceTable n (gatedAt e)
 
 -- By the lengths of the arrays.
 unfoldable pub gateFaults : EvidenceLengths → List Fault
@@ -40,4 +33,4 @@ gateRefused e = refusal (gateFaults (evidenceLengths e))
 -- What a call of `gate_to_informative` answers and leaves in the arrays.
 pub record GatedAs (before now : EvidenceArrays) (r : Positions) : Type 0 where
   pub answered : r ≡ answer Refused (gateRefused before) (Written (length (before .marks)))
-  pub outputs : LeavesEvidence (gateRefused before) (gated before) before now
+  pub outputs : LeavesEvidence (gateRefused before) (gated (length (before .marks)) before) before now

@@ -48,7 +48,7 @@ fn gate_refusal(lengths: EvidenceLengths) -> u8
 fn gate(marks: &mut [u8], unconverted: &mut [u32], converted: &mut [u32])
     requires { ⌜ (length (now unconverted) ≡ length (now marks)) × (length (now converted) ≡ length (now marks)) ⌝ }
     ensures { λ _. ⌜ LeavesEvidence 0
-        (gated (evidenceArrays (now (marks .entry)) (now (unconverted .entry)) (now (converted .entry))))
+        (gated (length (now (marks .entry))) (evidenceArrays (now (marks .entry)) (now (unconverted .entry)) (now (converted .entry))))
         (evidenceArrays (now (marks .entry)) (now (unconverted .entry)) (now (converted .entry)))
         (evidenceArrays (now (marks .exit)) (now (unconverted .exit)) (now (converted .exit))) ⌝ }
 {

@@ -14,6 +14,7 @@ use lib.Seq.{take-all}
 use Rattle.lists.specs.Output.{put}
 use Rattle.lists.proofs.Output.{answer-refused, answer-passed, after-refused, after-passed}
 use Rattle.refusals.specs.Refusal.{_if_, refusal}
+use Rattle.methylation.specs.Arrays.{evidencePlaces}
 use Rattle.byte_numbers.specs.Bytes.{numberOf, bytes16}
 use Rattle.byte_numbers.proofs.Groups.{length-by-group}
 use Rattle.evidence_bytes.specs.Evidence.{markIn, countIn, evidenceBytes}
@@ -22,7 +23,7 @@ use Rattle.duplex_outputs.specs.declared.RecordLengths.{RecordLengths}
 use Rattle.duplex_outputs.proofs.Outputs.{roomy}
 use Rattle.duplex_kind.specs.declared.DuplexConsensus.{DuplexConsensus}
 use Rattle.duplex_kind.specs.declared.DuplexConsensus.the-variants.{Refused}
-use Rattle.record_bytes.specs.Outputs.{RecordBytes, asArrays, LeavesBytes, shortFor, outputsRefused, evidencePlaces, fronts, WrittenAs, positionsIn}
+use Rattle.record_bytes.specs.Outputs.{RecordBytes, asArrays, LeavesBytes, shortFor, outputsRefused, fronts, WrittenAs, positionsIn}
 use Rattle.record_bytes.specs.declared.Written.{Written}
 
 -- Evidence of m, u and v, by the fronts m', u' and v' that the code has of them.

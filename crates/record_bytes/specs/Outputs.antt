@@ -1,12 +1,12 @@
 -- A duplex record as bytes: a base and a quality are one byte, errors two bytes a position, low byte first, evidence nine.
 use Prim.Native.Nat.{ℕ, _/_}
 use mathlib.Core.Path.{_≡_}
-use mathlib.Core.Bool.{Bool, false, cond}
+use mathlib.Core.Bool.{Bool, false}
 use mathlib.Core.List.{List, [], _∷_}
 use lib.ListN.{take}
 use Rattle.lists.specs.Output.{answer, after}
 use Rattle.refusals.specs.Refusal.{_if_, refusal}
-use Rattle.methylation.specs.Arrays.{EvidenceArrays, evidenceArrays}
+use Rattle.methylation.specs.Arrays.{EvidenceArrays, evidenceArrays, evidencePlaces}
 use Rattle.byte_numbers.specs.Bytes.{words16, bytes16}
 use Rattle.evidence_bytes.specs.Evidence.{marksOf, unconvertedOf, convertedOf, evidenceBytes}
 use Rattle.duplex_outputs.specs.Outputs.{RecordArrays, recordOf, recordLengths, recordTooShort}
@@ -64,10 +64,6 @@ shortFor w out = recordTooShort (w .positions) (w .first) (w .second) (recordLen
 
 abbrev pub outputsRefused : Written → RecordBytes → ℕ
 outputsRefused w out = refusal ((12 if shortFor w (asArrays out)) ∷ [])
-
--- Where evidence is written, it is of every position.
-abbrev pub evidencePlaces : Bool → ℕ → ℕ
-evidencePlaces there n = cond there n 0
 
 -- The first so many positions of evidence.
 abbrev pub evidenceFronts : ℕ → EvidenceArrays → EvidenceArrays

@@ -4,10 +4,11 @@ ghost use mathlib.Core.Path.{_≡_};
 ghost use Prim.Native.Nat.{_/_};
 ghost use lib.ListN.{length, take};
 ghost use Rattle.lists.specs.Output.{put};
+ghost use Rattle.methylation.specs.Arrays.{evidencePlaces};
 ghost use Rattle.byte_numbers.specs.Bytes.{bytes16};
 ghost use Rattle.evidence_bytes.specs.Evidence.{evidenceBytes};
 ghost use Rattle.duplex_outputs.specs.Outputs.{recordOf};
-ghost use Rattle.record_bytes.specs.Outputs.{recordBytes, writtenOf, evidencePlaces, positionsIn, WrittenAs};
+ghost use Rattle.record_bytes.specs.Outputs.{recordBytes, writtenOf, positionsIn, WrittenAs};
 use byte_numbers::write_u16s;
 use duplex_kind::DuplexConsensus;
 use duplex_outputs::RecordLengths;
@@ -19,6 +20,7 @@ use lists::front_u8;
 use lists::front_u16;
 use lists::front_u32;
 use methylation::EvidenceLengths;
+use methylation::evidence_places;
 use refusals::OUTPUT_TOO_SHORT;
 
 // How many positions are written, and whether evidence of the first strand and of the second.
@@ -106,16 +108,6 @@ fn write_own(
     copy_u8(front_u8(bases, n), bases_out);
     copy_u8(front_u8(quals, n), quals_out);
     write_u16s(front_u16(errors, n), errors_out);
-}
-
-// How many positions of evidence are written.
-fn evidence_places(there: bool, n: usize) -> usize
-    ensures { λ r. ⌜ r ≡ evidencePlaces there n ⌝ }
-{
-    if there {
-        return n;
-    }
-    0
 }
 
 // The first n positions of a strand's evidence, where there is any to write, as many as there is room for.

@@ -11,8 +11,8 @@ use Rattle.lists.specs.Output.{put}
 use Rattle.lists.proofs.Output.{after-refused, after-passed}
 use Rattle.refusals.specs.Refusal.{ragged, tooShort}
 use Rattle.refusals.proofs.Condition.{Every, nor-where, not-ragged, not-too-short}
-use Rattle.methylation.specs.Arrays.{three, evidenceUneven, evidenceTooShort}
-use Rattle.methylation.proofs.Arrays.{evidence-refused, PutsEvidence, evidence-put, as-many-as}
+use Rattle.methylation.specs.Arrays.{three, evidenceUneven, evidenceTooShort, PutsEvidence}
+use Rattle.methylation.proofs.Arrays.{evidence-refused, evidence-put, as-many-as}
 use Rattle.vanilla_caller.specs.Strand.{Arrays, four, strandRagged, outputsTooShort, Leaves}
 use Rattle.vanilla_caller.specs.declared.Lengths.{Lengths}
 

@@ -38,13 +38,13 @@ module _ {A : Type 0} where
   unfoldable pub padTo : ℕ → Bool → A → List A → List A
   padTo n left v xs = cond left (replicate (n - length xs) v ++ xs) (xs ++ replicate (n - length xs) v)
 
--- The annotation of a strand of some length after padding.
+-- The annotation of a strand of so many positions after padding.
 abbrev pub kept : Annotation → ℕ → ℕ → Annotation
-kept annotation length newLength = cond (eqb length newLength) annotation Absent
+kept annotation positions newLength = cond (eqb positions newLength) annotation Absent
 
 -- Whether evidence is written.
 abbrev pub keeps : Annotation → ℕ → ℕ → Bool
-keeps annotation length newLength = isAnnotated annotation && eqb length newLength
+keeps annotation positions newLength = isAnnotated annotation && eqb positions newLength
 
 -- What is written to each output.
 abbrev pub paddedArrays : Annotation → Arrays → Padding → Arrays

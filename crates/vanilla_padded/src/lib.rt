@@ -1,13 +1,14 @@
-// Padding of a strand, from vanilla_caller.rs. Uses lists, refusals, dna, phred, methylation and vanilla_caller.
+// Padding of a strand, from vanilla_caller.rs. Uses lists, refusals, dna, phred, methylation,
+// vanilla_caller and methylation_evidence.
 ghost use mathlib.Core.Path.{_≡_};
-ghost use mathlib.Core.Bool.{cond};
 ghost use Prim.Native.Nat.{_≤_};
-ghost use mathlib.Core.List.{map};
-ghost use lib.ListN.{length, take};
+ghost use lib.ListN.{length};
 ghost use Rattle.lists.specs.Output.{put};
 ghost use Rattle.refusals.specs.Refusal.{refusal};
-ghost use Rattle.vanilla_caller.specs.Strand.{arrays, mark};
-ghost use Rattle.vanilla_padded.specs.Padding.{padding, defaultPadding, padTo, kept, keeps, paddedFaults, PaddedAs};
+ghost use Rattle.methylation.specs.Arrays.{evidenceArrays, PutsEvidence};
+ghost use Rattle.vanilla_caller.specs.Strand.{arrays};
+ghost use Rattle.methylation_evidence.specs.Truncate.{truncated};
+ghost use Rattle.vanilla_padded.specs.Padding.{padding, defaultPadding, padTo, kept, paddedFaults, PaddedAs};
 use dna::NO_CALL_BASE_LOWER;
 use lists::copy_u8;
 use lists::copy_u16;
@@ -16,7 +17,9 @@ use lists::fill_u8;
 use lists::fill_u16;
 use methylation::Annotation;
 use methylation::EvidenceLengths;
+use methylation::evidence_places;
 use methylation::is_annotated;
+use methylation_evidence::copy_marks;
 use phred::MIN_PHRED;
 use refusals::BELOW_LENGTH;
 use refusals::MAX_POSITIONS;
@@ -26,7 +29,6 @@ use refusals::TOO_LONG;
 use refusals::refuse_if;
 use vanilla_caller::Lengths;
 use vanilla_caller::lengths_of;
-use vanilla_caller::mark_of;
 use vanilla_caller::outputs_too_short;
 use vanilla_caller::strand_ragged;
 use vanilla_caller::strand_too_long;
@@ -37,11 +39,11 @@ pub enum PaddedStrand {
     Written(Annotation),
 }
 
-// The annotation of a strand padded from length to new_length.
-fn kept_annotation(annotation: Annotation, length: usize, new_length: usize) -> Annotation
-    ensures { λ r. ⌜ r ≡ kept annotation length «new_length» ⌝ }
+// The annotation of a strand of so many positions padded to new_length.
+fn kept_annotation(annotation: Annotation, positions: usize, new_length: usize) -> Annotation
+    ensures { λ r. ⌜ r ≡ kept annotation positions «new_length» ⌝ }
 {
-    if length == new_length {
+    if positions == new_length {
         annotation
     } else {
         Annotation::Absent
@@ -52,15 +54,15 @@ fn padded_refusal(annotation: Annotation, strand: Lengths, new_length: usize, ou
     ensures { λ r. ⌜ r ≡ refusal (paddedFaults annotation strand «new_length» out) ⌝ }
 {
     let annotated = is_annotated(annotation);
-    let length = strand.bases;
-    let evidence = annotated & (length == new_length);
+    let positions = strand.bases;
+    let evidence = annotated & (positions == new_length);
     let number = refuse_if(
         0,
         (MAX_POSITIONS < new_length) | strand_too_long(annotated, strand),
         TOO_LONG,
     );
     let number = refuse_if(number, strand_ragged(annotated, strand), RAGGED);
-    let number = refuse_if(number, new_length < length, BELOW_LENGTH);
+    let number = refuse_if(number, new_length < positions, BELOW_LENGTH);
     refuse_if(
         number,
         outputs_too_short(new_length, evidence, out),
@@ -72,49 +74,30 @@ fn pad_u8(xs: &[u8], new_length: usize, left: bool, value: u8, out: &mut [u8])
     requires { ⌜ (length (now xs) ≤ «new_length») × («new_length» ≤ length (now out)) ⌝ }
     ensures { λ _. ⌜ now (out .exit) ≡ put (padTo «new_length» left value (now (xs .entry))) (now (out .entry)) ⌝ }
 {
-    let length = xs.len();
-    let added = new_length - length;
+    let size = xs.len();
+    let added = new_length - size;
     if left {
         fill_u8(value, &mut out[0..added]);
         copy_u8(xs, &mut out[added..new_length]);
         return;
     }
-    copy_u8(xs, &mut out[0..length]);
-    fill_u8(value, &mut out[length..new_length]);
+    copy_u8(xs, &mut out[0..size]);
+    fill_u8(value, &mut out[size..new_length]);
 }
 
 fn pad_u16(xs: &[u16], new_length: usize, left: bool, value: u16, out: &mut [u16])
     requires { ⌜ (length (now xs) ≤ «new_length») × («new_length» ≤ length (now out)) ⌝ }
     ensures { λ _. ⌜ now (out .exit) ≡ put (padTo «new_length» left value (now (xs .entry))) (now (out .entry)) ⌝ }
 {
-    let length = xs.len();
-    let added = new_length - length;
+    let size = xs.len();
+    let added = new_length - size;
     if left {
         fill_u16(value, &mut out[0..added]);
         copy_u16(xs, &mut out[added..new_length]);
         return;
     }
-    copy_u16(xs, &mut out[0..length]);
-    fill_u16(value, &mut out[length..new_length]);
-}
-
-fn copy_marks(marks: &[u8], places: usize, out: &mut [u8])
-    requires { ⌜ (places ≤ length (now marks)) × (places ≤ length (now out)) ⌝ }
-    ensures { λ _. ⌜ now (out .exit) ≡ put (map mark (take places (now (marks .entry)))) (now (out .entry)) ⌝ }
-{
-    let mut i = 0;
-    while i < places {
-        out[i] = mark_of(marks[i]);
-        i += 1;
-    }
-}
-
-// How many places of evidence are written.
-fn evidence_places(annotation: Annotation, length: usize, new_length: usize) -> usize
-    ensures { λ r. ⌜ r ≡ cond (keeps annotation length «new_length») «new_length» 0 ⌝ }
-{
-    let evidence = is_annotated(annotation) & (length == new_length);
-    if evidence { new_length } else { 0 }
+    copy_u16(xs, &mut out[0..size]);
+    fill_u16(value, &mut out[size..new_length]);
 }
 
 fn write_padded(
@@ -146,6 +129,7 @@ fn write_padded(
     pad_u16(errors, new_length, left, 0, errors_out);
 }
 
+// The first so many positions of the evidence.
 fn write_evidence(
     marks: &[u8],
     unconverted: &[u32],
@@ -158,11 +142,12 @@ fn write_evidence(
     requires { ⌜ (places ≤ length (now marks)) × (places ≤ length (now «marks_out»)) ⌝ }
     requires { ⌜ (places ≤ length (now unconverted)) × (places ≤ length (now «unconverted_out»)) ⌝ }
     requires { ⌜ (places ≤ length (now converted)) × (places ≤ length (now «converted_out»)) ⌝ }
-    ensures { λ _. ⌜ now («marks_out» .exit) ≡ put (map mark (take places (now (marks .entry)))) (now («marks_out» .entry)) ⌝ }
-    ensures { λ _. ⌜ now («unconverted_out» .exit) ≡ put (take places (now (unconverted .entry))) (now («unconverted_out» .entry)) ⌝ }
-    ensures { λ _. ⌜ now («converted_out» .exit) ≡ put (take places (now (converted .entry))) (now («converted_out» .entry)) ⌝ }
+    ensures { λ _. ⌜ PutsEvidence
+        (truncated places (evidenceArrays (now (marks .entry)) (now (unconverted .entry)) (now (converted .entry))))
+        (evidenceArrays (now («marks_out» .entry)) (now («unconverted_out» .entry)) (now («converted_out» .entry)))
+        (evidenceArrays (now («marks_out» .exit)) (now («unconverted_out» .exit)) (now («converted_out» .exit))) ⌝ }
 {
-    copy_marks(marks, places, marks_out);
+    copy_marks(&marks[0..places], marks_out);
     copy_u32(&unconverted[0..places], unconverted_out);
     copy_u32(&converted[0..places], converted_out);
 }
@@ -227,7 +212,8 @@ pub fn padded(
         depths_out,
         errors_out,
     );
-    let places = evidence_places(annotation, bases.len(), new_length);
+    let kept = is_annotated(annotation) & (bases.len() == new_length);
+    let places = evidence_places(kept, new_length);
     write_evidence(
         marks,
         unconverted,

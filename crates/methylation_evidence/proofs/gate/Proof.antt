@@ -3,13 +3,16 @@ use Prim.Native.Nat.{_-_}
 use native.Mathlib.Omega.{arith}
 use Rattle.lists.proofs.Output.{same, fits}
 use Rattle.methylation.specs.Arrays.{evidenceArrays}
-use Rattle.methylation_evidence.proofs.Gating.{Gating, begin-gate, next-gate, done-gate}
+use Rattle.methylation.proofs.Filling.{FillingEvidence}
+use Rattle.methylation_evidence.specs.Gate.{gatedAt}
+use Rattle.methylation_evidence.proofs.Gating.{begin-gate, next-gate, done-gate}
 use Rattle.methylation_evidence.proofs.gate.Statement.{statement}
 use Rattle.methylation_evidence.proofs.gate.Tie as tie
 
 abbrev Inv-loop : tie.InvT-loop
 Inv-loop marks₀ unconverted₀ converted₀ n i₀ marks unconverted converted i =
-    Gating n (evidenceArrays marks₀ unconverted₀ converted₀) i (evidenceArrays marks unconverted converted)
+    let e = evidenceArrays marks₀ unconverted₀ converted₀ in
+    FillingEvidence n (gatedAt e) e i (evidenceArrays marks unconverted converted)
 
 abbrev μ-loop : tie.MeasureT-loop
 μ-loop marks₀ unconverted₀ converted₀ n i₀ marks unconverted converted i = n - i

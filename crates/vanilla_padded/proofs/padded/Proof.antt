@@ -1,7 +1,6 @@
 -- `vanilla_padded::padded` meets its contract: refused by its number, or each output written, where it has room. Assumes nothing.
 use mathlib.Core.Path.{ap, _∙_}
 use mathlib.Core.List.{map}
-use borrow.Author.Needs.{needs}
 use Rattle.lists.proofs.Output.{answer-refused, answer-passed, put-equal}
 use Rattle.vanilla_caller.specs.Strand.{mark}
 use Rattle.vanilla_padded.specs.declared.PaddedStrand.the-variants.{Refused, Written}
@@ -27,7 +26,7 @@ write-padded-requires c κs =
 
 -- The test of the number, seen from where the first four outputs are written.
 abbrev tested : tie.After-evidence-places → tie.Else1
-tested c = c .before .before .before .before .before .before .before .before .before .before .before .before .before .before
+tested c = c .before .before .before .before .before .before .before .before .before .before .before .before .before .before .before
 
 write-evidence-requires : tie.Need-write-evidence-requires
 write-evidence-requires c κs =
@@ -35,18 +34,18 @@ write-evidence-requires c κs =
     let asked = tested written .before in
     let number = by-lengths _ _ _ _ (asked .before .lengths-of .ensures) (asked .padded-refusal .ensures) in
     let r = room _ _ _ _ number (tested written .if1 .left) in
-    rw (written .evidence-places .ensures) (r .marks, (r .unconverted, r .converted))
+    rw (written .evidence-places .ensures, written .before .is-annotated .ensures) (r .marks, (r .unconverted, r .converted))
 
 returns-2 : tie.Need-returns-2
 returns-2 c =
     let evidence = c .before .before .before .before .before .before .before in
     let counted = evidence .before .before .before .before in
-    let arrays = counted .before .before .before .before .before .before .before .before .before in
+    let arrays = counted .before .before .before .before .before .before .before .before .before .before in
     let asked = tested counted .before in
     let number = by-lengths _ _ _ _ (asked .before .lengths-of .ensures) (asked .padded-refusal .ensures) in
     let passed = tested counted .if1 .left in
     let r = room _ _ _ _ number passed in
-    let places = counted .evidence-places .ensures in
+    let places = rw (counted .before .is-annotated .ensures) at (counted .evidence-places .ensures) in
     record {
       answered = ap Written (c .kept-annotation .ensures) ∙ answer-passed Refused _ number passed;
       outputs = leaves-passed number passed (record {
@@ -55,9 +54,9 @@ returns-2 c =
         depths = arrays .write-padded .ensures .1 .1 .0;
         errors = arrays .write-padded .ensures .1 .1 .1;
         evidence = record {
-          marks = evidence .write-evidence .ensures .0 ∙ put-equal _ (ap (map mark) (all-or-none _ _ _ places (λ k. r .whole k .0)));
-          unconverted = evidence .write-evidence .ensures .1 .0 ∙ put-equal _ (all-or-none _ _ _ places (λ k. r .whole k .1));
-          converted = evidence .write-evidence .ensures .1 .1 ∙ put-equal _ (all-or-none _ _ _ places (λ k. r .whole k .2));
+          marks = evidence .write-evidence .ensures .marks ∙ put-equal _ (ap (map mark) (all-or-none _ _ _ places (λ k. r .whole k .0)));
+          unconverted = evidence .write-evidence .ensures .unconverted ∙ put-equal _ (all-or-none _ _ _ places (λ k. r .whole k .1));
+          converted = evidence .write-evidence .ensures .converted ∙ put-equal _ (all-or-none _ _ _ places (λ k. r .whole k .2));
         };
       });
     }
@@ -71,13 +70,14 @@ padded-spec =
     returns
     write-padded-requires
     (λ c κs. tt)
+    (λ c κs. tt)
     write-evidence-requires
     (λ c κs. tt)
-    (λ c. search needs)
-    (λ c. search needs)
-    (λ c. search needs)
-    (λ c. search needs)
-    (λ c. search needs)
-    (λ c. search needs)
-    (λ c. search needs)
+    (λ c. c .before .before .before .before .before .before .before .before .before .before .before .before .before .before .before .before .before .before .before .before .bases-out .given)
+    (λ c. c .before .before .before .before .before .before .before .before .before .before .before .before .before .before .before .before .before .before .quals-out .given)
+    (λ c. c .before .before .before .before .before .before .before .before .before .before .before .before .before .before .before .before .depths-out .given)
+    (λ c. c .before .before .before .before .before .before .before .before .before .before .before .before .before .before .errors-out .given)
+    (λ c. c .before .before .before .before .before .before .marks-out .given)
+    (λ c. c .before .before .before .before .unconverted-out .given)
+    (λ c. c .before .before .converted-out .given)
     returns-2)

@@ -1,6 +1,6 @@
--- `record_bytes::evidence_places` meets its contract: all or none. Assumes nothing.
-use Rattle.record_bytes.proofs.evidence_places.Statement.{statement}
-use Rattle.record_bytes.proofs.evidence_places.Tie as tie
+-- `methylation::evidence_places` meets its contract: all or none. Assumes nothing.
+use Rattle.methylation.proofs.evidence_places.Statement.{statement}
+use Rattle.methylation.proofs.evidence_places.Tie as tie
 
 returns : tie.Need-returns
 returns c = rw (c .if1 .taken)
