@@ -48,11 +48,9 @@ read-u16s-spec =
     (λ c. omega (arith, read-room 2 numberOf _ (c .before .before .loop .inv) (c .before .loop-test .taken)))
     (λ c. omega (arith, read-room 2 numberOf _ (c .before .before .loop .inv) (c .before .loop-test .taken)))
     (λ c. omega (arith, read-room 2 numberOf _ (c .before .before .before .loop .inv) (c .before .before .loop-test .taken)))
-    (λ c κs. tt)
-    (λ c. omega arith)
+    (λ c κs. tt) (λ c. omega arith)
     slice-write-out
-    (λ c. omega arith)
-    (λ c. omega arith)
+    (λ c. omega arith) (λ c. omega arith)
     loop-again
     same-length
     returns)

@@ -52,11 +52,9 @@ read-u32s-spec =
     (λ c. omega (arith, read-room 4 numberOf _ (c .before .before .before .before .loop .inv) (c .before .before .before .loop-test .taken)))
     (λ c. omega (arith, read-room 4 numberOf _ (c .before .before .before .before .loop .inv) (c .before .before .before .loop-test .taken)))
     (λ c. omega (arith, read-room 4 numberOf _ (c .before .before .before .before .before .loop .inv) (c .before .before .before .before .loop-test .taken)))
-    (λ c κs. tt)
-    (λ c. omega arith)
+    (λ c κs. tt) (λ c. omega arith)
     slice-write-out
-    (λ c. omega arith)
-    (λ c. omega arith)
+    (λ c. omega arith) (λ c. omega arith)
     loop-again
     same-length
     returns)

@@ -25,11 +25,7 @@ pub gated-spec : {M : Type 1} → statement M
 gated-spec =
     tie.close
     (tie.spec
-    (λ c. search needs)
-    (λ c. search needs)
-    (λ c κs. tt)
-    (λ c. search needs)
-    (λ c κs. tt)
+    (λ c. search needs) (λ c. search needs) (λ c κs. tt) (λ c. search needs) (λ c κs. tt)
     returns
     returns-2
     returns-3)

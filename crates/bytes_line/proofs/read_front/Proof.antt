@@ -19,8 +19,6 @@ pub read-front-spec : {M : Type 1} → statement M
 read-front-spec =
     tie.close
     (tie.spec
-    (λ c κs. tt)
-    (λ c κs. tt)
-    (λ c κs. tt)
+    (λ c κs. tt) (λ c κs. tt) (λ c κs. tt)
     same-length
     returns)

@@ -25,14 +25,9 @@ pub gedrashiw-duplex-consensus-spec : {M : Type 1} → statement M
 gedrashiw-duplex-consensus-spec =
     tie.close
     (tie.spec
-    (λ c κs. tt)
-    (λ c κs. tt)
-    (λ c κs. tt)
+    (λ c κs. tt) (λ c κs. tt) (λ c κs. tt)
     returns
-    (λ c κs. tt)
-    (λ c κs. tt)
-    (λ c κs. tt)
-    (λ c κs. tt)
+    (λ c κs. tt) (λ c κs. tt) (λ c κs. tt) (λ c κs. tt)
     (λ c. c .before .before .before .before .before .before .before .before .before .before .bases-out .given)
     (λ c. c .before .before .before .before .before .before .before .before .quals-out .given)
     (λ c. c .before .before .before .before .before .before .errors-out .given)

@@ -33,10 +33,6 @@ total-of-spec =
     Inv-loop
     μ-loop
     (λ c. (omega arith, omega arith, refl))
-    (λ c κs. tt)
-    (λ c. omega arith)
-    (λ c. omega arith)
-    (λ c. omega arith)
-    (λ c. omega arith)
+    (λ c κs. tt) (λ c. omega arith) (λ c. omega arith) (λ c. omega arith) (λ c. omega arith)
     loop-again
     returns)

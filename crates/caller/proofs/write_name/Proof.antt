@@ -71,7 +71,6 @@ write-name-spec =
     (λ c. search needs)
     sub-copy-u8
     part-copy-u8-start
-    (λ c. search needs)
-    (λ c κs. tt)
+    (λ c. search needs) (λ c κs. tt)
     same-length
     returns)

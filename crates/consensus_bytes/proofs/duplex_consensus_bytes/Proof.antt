@@ -18,18 +18,8 @@ pub duplex-consensus-bytes-spec : {M : Type 1} → statement M
 duplex-consensus-bytes-spec =
     tie.close
     (tie.spec
-    (λ c. refl)
-    (λ c. refl)
-    (λ c. refl)
-    (λ c. refl)
-    (λ c. refl)
-    (λ c. refl)
-    (λ c. refl)
-    (λ c. refl)
-    (λ c. refl)
-    (λ c κs. tt)
-    (λ c κs. tt)
-    (λ c κs. tt)
+    (λ c. refl) (λ c. refl) (λ c. refl) (λ c. refl) (λ c. refl) (λ c. refl) (λ c. refl) (λ c. refl) (λ c. refl)
+    (λ c κs. tt) (λ c κs. tt) (λ c κs. tt)
     (λ c. sym (c .before .before .before .before .before .before .before .before .before .before .before .bases2 .given))
     (λ c. sym (c .before .before .before .before .before .before .before .before .before .before .before .quals2 .given))
     (λ c. sym (c .before .before .before .before .before .before .before .before .before .before .before .errors2 .given))

@@ -53,11 +53,9 @@ fill-called-estimates-spec =
     (λ c. lt-of-lt-of-le (c .before .before .before .before .before .before .before .loop-test .taken) (c .before .before .before .before .before .before .before .before .before .before .before .before .before .before .before .before .before .before .pre .1 .0 .2))
     (λ c. omega arith)
     (λ c. lt-of-lt-of-le (c .before .before .before .before .before .before .before .before .loop-test .taken) (c .before .before .before .before .before .before .before .before .before .before .before .before .before .before .before .before .before .before .before .pre .1 .0 .3))
-    (λ c κs. tt)
-    (λ c. omega arith)
+    (λ c κs. tt) (λ c. omega arith)
     slice-write-errors-out
-    (λ c. omega arith)
-    (λ c. omega arith)
+    (λ c. omega arith) (λ c. omega arith)
     loop-again
     same-length
     returns)

@@ -55,8 +55,7 @@ pub write-called-positions-spec : {M : Type 1} → statement M
 write-called-positions-spec =
     tie.close
     (tie.spec
-    (λ c κs. tt)
-    (λ c κs. tt)
+    (λ c κs. tt) (λ c κs. tt)
     returns
     fill-called-positions-requires
     (λ c. c .before .before .before .bases-out .given)

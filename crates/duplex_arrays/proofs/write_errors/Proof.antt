@@ -66,11 +66,9 @@ write-errors-spec =
     (tie.spec
     (λ c κs. tt)
     returns
-    (λ c. search needs)
-    (λ c. search needs)
+    (λ c. search needs) (λ c. search needs)
     part-fill-u16-end
-    (λ c κs. tt)
-    (λ c. search needs)
+    (λ c κs. tt) (λ c. search needs)
     returns-2
     (λ c κs. tt)
     fill-called-estimates-requires

@@ -42,9 +42,6 @@ smallest-combined-spec =
     returns
     (λ c κs. tt)
     loop-holds
-    (λ c κs. tt)
-    (λ c κs. tt)
-    (λ c. omega arith)
-    (λ c. omega arith)
+    (λ c κs. tt) (λ c κs. tt) (λ c. omega arith) (λ c. omega arith)
     loop-again
     returns-2)

@@ -43,8 +43,7 @@ write-evidence-spec =
     (tie.spec
     (λ c κs. tt)
     returns
-    (λ c κs. tt)
-    (λ c κs. tt)
+    (λ c κs. tt) (λ c κs. tt)
     fill-evidence-requires
     (λ c. c .before .before .before .before .before .marks-out .given)
     (λ c. c .before .before .before .unconverted-out .given)

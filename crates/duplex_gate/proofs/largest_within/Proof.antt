@@ -43,10 +43,6 @@ largest-within-spec =
     μ-loop
     (λ c κs. tt)
     (λ c. (c .smaller .ensures, omega arith, refl))
-    (λ c. omega arith)
-    (λ c. omega arith)
-    (λ c κs. tt)
-    (λ c. omega arith)
-    (λ c. omega arith)
+    (λ c. omega arith) (λ c. omega arith) (λ c κs. tt) (λ c. omega arith) (λ c. omega arith)
     loop-again
     returns)

@@ -22,10 +22,6 @@ pub duplex-line-spec : {M : Type 1} → statement M
 duplex-line-spec =
     tie.close
     (tie.spec
-    (λ c κs. tt)
-    (λ c. search needs)
-    (λ c κs. tt)
-    (λ c. search needs)
-    (λ c κs. tt)
+    (λ c κs. tt) (λ c. search needs) (λ c κs. tt) (λ c. search needs) (λ c κs. tt)
     returns
     returns-2)

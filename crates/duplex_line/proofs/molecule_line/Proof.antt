@@ -29,18 +29,8 @@ pub molecule-line-spec : {M : Type 1} → statement M
 molecule-line-spec =
     tie.close
     (tie.spec
-    (λ c κs. tt)
-    (λ c. search needs)
-    (λ c κs. tt)
-    (λ c κs. tt)
-    (λ c. search needs)
-    (λ c. search needs)
-    (λ c. search needs)
-    (λ c κs. tt)
-    (λ c. search needs)
-    (λ c. search needs)
-    (λ c κs. tt)
-    (λ c κs. tt)
+    (λ c κs. tt) (λ c. search needs) (λ c κs. tt) (λ c κs. tt) (λ c. search needs) (λ c. search needs)
+    (λ c. search needs) (λ c κs. tt) (λ c. search needs) (λ c. search needs) (λ c κs. tt) (λ c κs. tt)
     returns
     (λ c κs. tt)
     returns-2)

@@ -23,9 +23,6 @@ no-calls-spec =
     Inv-loop
     μ-loop
     (λ c. begin isN)
-    (λ c. omega arith)
-    (λ c κs. omega arith)
-    (λ c. omega arith)
-    (λ c. omega arith)
+    (λ c. omega arith) (λ c κs. omega arith) (λ c. omega arith) (λ c. omega arith)
     loop-again
     (λ c. done isN (c .before .loop .inv) (c .loop-test .left)))

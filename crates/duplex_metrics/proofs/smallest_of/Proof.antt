@@ -31,9 +31,6 @@ smallest-of-spec =
     μ-loop
     (λ c κs. tt)
     (λ c. (omega arith, c .first-of .ensures))
-    (λ c κs. tt)
-    (λ c κs. tt)
-    (λ c. omega arith)
-    (λ c. omega arith)
+    (λ c κs. tt) (λ c κs. tt) (λ c. omega arith) (λ c. omega arith)
     loop-again
     returns)

@@ -19,8 +19,5 @@ pub strand-figures-spec : {M : Type 1} → statement M
 strand-figures-spec =
     tie.close
     (tie.spec
-    (λ c. search needs)
-    (λ c. search needs)
-    (λ c. search needs)
-    (λ c κs. search needs)
+    (λ c. search needs) (λ c. search needs) (λ c. search needs) (λ c κs. search needs)
     returns)

@@ -39,7 +39,6 @@ total-of-spec =
     (λ c. (omega arith, omega arith, refl))
     (λ c κs. tt)
     add-sum
-    (λ c. omega arith)
-    (λ c. omega arith)
+    (λ c. omega arith) (λ c. omega arith)
     loop-again
     returns)

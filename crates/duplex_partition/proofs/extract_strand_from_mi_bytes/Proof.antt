@@ -38,8 +38,7 @@ extract-strand-from-mi-bytes-spec =
     returns
     (λ c. search needs)
     returns-2
-    (λ c. search needs)
-    (λ c. search needs)
+    (λ c. search needs) (λ c. search needs)
     returns-3
     returns-4
     returns-5)

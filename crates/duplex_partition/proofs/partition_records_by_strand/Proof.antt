@@ -56,12 +56,8 @@ pub partition-records-by-strand-spec : {M : Type 1} → statement M
 partition-records-by-strand-spec =
     tie.close
     (tie.spec
-    (λ c κs. tt)
-    (λ c κs. tt)
-    (λ c κs. tt)
+    (λ c κs. tt) (λ c κs. tt) (λ c κs. tt)
     returns
     write-partition-requires
-    (λ c κs. tt)
-    (λ c. search needs)
-    (λ c. search needs)
+    (λ c κs. tt) (λ c. search needs) (λ c. search needs)
     returns-2)

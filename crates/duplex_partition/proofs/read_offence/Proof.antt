@@ -32,10 +32,7 @@ read-offence-spec =
     (tie.spec
     (λ c. search needs)
     returns
-    (λ c κs. tt)
-    (λ c. search needs)
-    (λ c. search needs)
-    (λ c. search needs)
+    (λ c κs. tt) (λ c. search needs) (λ c. search needs) (λ c. search needs)
     returns-2
     returns-3
     returns-4)

@@ -80,22 +80,11 @@ write-partition-spec =
     Inv-loop
     μ-loop
     loop-holds
-    (λ c. omega arith)
-    (λ c. omega arith)
-    (λ c κs. tt)
-    (λ c. search needs)
-    (λ c. omega arith)
-    (λ c. omega arith)
+    (λ c. omega arith) (λ c. omega arith) (λ c κs. tt) (λ c. search needs) (λ c. omega arith) (λ c. omega arith)
     slice-write-a-out
-    (λ c. omega arith)
-    (λ c. search needs)
-    (λ c. omega arith)
-    (λ c. omega arith)
+    (λ c. omega arith) (λ c. search needs) (λ c. omega arith) (λ c. omega arith)
     slice-write-b-out
-    (λ c. omega arith)
-    (λ c. search needs)
-    (λ c. omega arith)
-    (λ c. omega arith)
+    (λ c. omega arith) (λ c. search needs) (λ c. omega arith) (λ c. omega arith)
     loop-again
     same-length
     same-length-2

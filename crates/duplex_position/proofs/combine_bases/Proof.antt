@@ -25,11 +25,9 @@ pub combine-bases-spec : {M : Type 1} → statement M
 combine-bases-spec =
     tie.close
     (tie.spec
-    (λ c κs. tt)
-    (λ c κs. tt)
+    (λ c κs. tt) (λ c κs. tt)
     returns
-    (λ c κs. tt)
-    (λ c κs. tt)
+    (λ c κs. tt) (λ c κs. tt)
     returns-2
     (λ c κs. tt)
     returns-3)

@@ -30,10 +30,6 @@ pub disagreed-quality-spec : {M : Type 1} → statement M
 disagreed-quality-spec =
     tie.close
     (tie.spec
-    (λ c. search needs)
-    (λ c. search needs)
-    (λ c κs. tt)
-    (λ c. search needs)
-    (λ c κs. tt)
+    (λ c. search needs) (λ c. search needs) (λ c κs. tt) (λ c. search needs) (λ c κs. tt)
     returns
     returns-2)

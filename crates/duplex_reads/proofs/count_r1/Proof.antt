@@ -23,10 +23,6 @@ count-r1-spec =
     Inv-loop
     μ-loop
     (λ c. begin isPairedR1)
-    (λ c. omega arith)
-    (λ c. omega arith)
-    (λ c κs. omega arith)
-    (λ c. omega arith)
-    (λ c. omega arith)
+    (λ c. omega arith) (λ c. omega arith) (λ c κs. omega arith) (λ c. omega arith) (λ c. omega arith)
     loop-again
     (λ c. done isPairedR1 (c .before .loop .inv) (c .loop-test .left)))

@@ -57,9 +57,7 @@ pub gate-answer-spec : {M : Type 1} → statement M
 gate-answer-spec =
     tie.close
     (tie.spec
-    (λ c κs. tt)
-    (λ c. search needs)
-    (λ c. search needs)
+    (λ c κs. tt) (λ c. search needs) (λ c. search needs)
     returns
     (λ c κs. tt)
     returns-2

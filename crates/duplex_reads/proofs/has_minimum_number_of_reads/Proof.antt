@@ -48,8 +48,7 @@ pub has-minimum-number-of-reads-spec : {M : Type 1} → statement M
 has-minimum-number-of-reads-spec =
     tie.close
     (tie.spec
-    (λ c κs. tt)
-    (λ c κs. tt)
+    (λ c κs. tt) (λ c κs. tt)
     returns
     (λ c κs. few c .0)
     (λ c κs. few (c .before) .1 .0)

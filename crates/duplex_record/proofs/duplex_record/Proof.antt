@@ -72,22 +72,9 @@ pub duplex-record-spec : {M : Type 1} → statement M
 duplex-record-spec =
     tie.close
     (tie.spec
-    (λ c κs. tt)
-    (λ c κs. tt)
-    (λ c κs. tt)
-    (λ c. search needs)
-    (λ c. search needs)
-    (λ c. search needs)
-    (λ c κs. tt)
-    (λ c κs. tt)
-    (λ c. search needs)
-    (λ c κs. tt)
-    (λ c κs. tt)
-    (λ c. search needs)
-    (λ c κs. tt)
-    (λ c κs. tt)
-    (λ c κs. tt)
-    (λ c κs. tt)
+    (λ c κs. tt) (λ c κs. tt) (λ c κs. tt) (λ c. search needs) (λ c. search needs) (λ c. search needs) (λ c κs. tt)
+    (λ c κs. tt) (λ c. search needs) (λ c κs. tt) (λ c κs. tt) (λ c. search needs) (λ c κs. tt) (λ c κs. tt)
+    (λ c κs. tt) (λ c κs. tt)
     (λ c. c .before .before .before .before .before .before .before .before .before .before .before .before .before .before .before .before .before .before .bases-out3 .given)
     (λ c. c .before .before .before .before .before .before .before .before .before .before .before .before .before .before .before .before .quals-out3 .given)
     (λ c. c .before .before .before .before .before .before .before .before .before .before .before .before .before .before .errors-out3 .given)
@@ -98,8 +85,7 @@ duplex-record-spec =
     (λ c. c .before .before .before .before .b-unconverted-out .given)
     (λ c. c .before .before .b-converted-out .given)
     returns
-    (λ c κs. tt)
-    (λ c κs. tt)
+    (λ c κs. tt) (λ c κs. tt)
     returns-2
     returns-3
     (λ c. c .before .before .before .before .before .before .before .before .before .before .before .before .bases-out .given)

@@ -58,14 +58,9 @@ pub gated-single-strand-spec : {M : Type 1} → statement M
 gated-single-strand-spec =
     tie.close
     (tie.spec
-    (λ c κs. tt)
-    (λ c κs. tt)
+    (λ c κs. tt) (λ c κs. tt)
     returns
-    (λ c κs. tt)
-    (λ c κs. tt)
-    (λ c κs. tt)
-    (λ c κs. tt)
-    (λ c κs. tt)
+    (λ c κs. tt) (λ c κs. tt) (λ c κs. tt) (λ c κs. tt) (λ c κs. tt)
     write-gated-requires
     (λ c. c .before .before .before .before .before .before .before .before .before .before .before .before .before .before .before .before .before .before .before .before .before .bases-out .given)
     (λ c. c .before .before .before .before .before .before .before .before .before .before .before .before .before .before .before .before .before .quals-out .given)

@@ -33,19 +33,13 @@ write-gated-spec =
     Inv-loop
     μ-loop
     loop-holds
-    (λ c. omega arith)
-    (λ c. omega arith)
-    (λ c. omega arith)
-    (λ c. omega arith)
-    (λ c. omega arith)
-    (λ c κs. tt)
+    (λ c. omega arith) (λ c. omega arith) (λ c. omega arith) (λ c. omega arith) (λ c. omega arith) (λ c κs. tt)
     (λ c. fits (c .before .before .before .before .before .loop .inv .marks) (c .before .before .before .before .loop-test .taken))
     (λ c. omega arith)
     (λ c. fits (c .before .before .before .before .before .loop .inv .unconverted) (c .before .before .before .before .loop-test .taken))
     (λ c. omega arith)
     (λ c. fits (c .before .before .before .before .before .loop .inv .converted) (c .before .before .before .before .loop-test .taken))
-    (λ c. omega arith)
-    (λ c. omega arith)
+    (λ c. omega arith) (λ c. omega arith)
     loop-again
     (λ c. same (c .before .loop .inv .marks))
     (λ c. same (c .before .loop .inv .unconverted))

@@ -42,9 +42,7 @@ combine-strands-spec =
     (tie.spec
     (λ c κs. tt)
     returns
-    (λ c κs. tt)
-    (λ c κs. tt)
-    (λ c κs. tt)
+    (λ c κs. tt) (λ c κs. tt) (λ c κs. tt)
     (λ c. c .before .before .before .before .before .before .before .bases-out .given)
     (λ c. c .before .before .before .before .before .quals-out .given)
     (λ c. c .before .errors-out .given)

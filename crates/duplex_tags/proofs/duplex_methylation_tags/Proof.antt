@@ -215,8 +215,7 @@ duplex-methylation-tags-spec =
     (tie.spec
     (λ c κs. tt)
     returns
-    (λ c κs. tt)
-    (λ c κs. tt)
+    (λ c κs. tt) (λ c κs. tt)
     same-length
     same-length-2
     same-length-3

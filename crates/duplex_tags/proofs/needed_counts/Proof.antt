@@ -9,6 +9,5 @@ pub needed-counts-spec : {M : Type 1} → statement M
 needed-counts-spec =
     tie.close
     (tie.spec
-    (λ c κs. tt)
-    (λ c κs. tt)
+    (λ c κs. tt) (λ c κs. tt)
     returns)

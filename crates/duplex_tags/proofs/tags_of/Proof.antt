@@ -15,7 +15,6 @@ pub tags-of-spec : {M : Type 1} → statement M
 tags-of-spec =
     tie.close
     (tie.spec
-    (λ c. search needs)
-    (λ c. search needs)
+    (λ c. search needs) (λ c. search needs)
     returns
     returns-2)

@@ -49,17 +49,11 @@ pub write-counts-spec : {M : Type 1} → statement M
 write-counts-spec =
     tie.close
     (tie.spec
-    (λ c κs. tt)
-    (λ c κs. tt)
-    (λ c. search needs)
-    (λ c. search needs)
+    (λ c κs. tt) (λ c κs. tt) (λ c. search needs) (λ c. search needs)
     part-of-a-end
-    (λ c. search needs)
-    (λ c. search needs)
+    (λ c. search needs) (λ c. search needs)
     part-of-b-end
-    (λ c κs. tt)
-    (λ c κs. tt)
-    (λ c κs. tt)
+    (λ c κs. tt) (λ c κs. tt) (λ c κs. tt)
     (λ c. c .before .before .before .before .before .before .before .before .before .a-out .given)
     (λ c. c .before .before .before .before .before .b-out .given)
     (λ c. c .before .out .given)

@@ -18,9 +18,7 @@ pub lengths-of-spec : {M : Type 1} → statement M
 lengths-of-spec =
     tie.close
     (tie.spec
-    (λ c. search needs)
-    (λ c. search needs)
-    (λ c. search needs)
+    (λ c. search needs) (λ c. search needs) (λ c. search needs)
     returns
     returns-2
     returns-3)

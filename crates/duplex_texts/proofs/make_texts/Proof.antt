@@ -132,9 +132,7 @@ make-texts-spec =
     (tie.spec
     (λ c. refl)
     restore-both-requires
-    (λ c. search needs)
-    (λ c. search needs)
-    (λ c. search needs)
+    (λ c. search needs) (λ c. search needs) (λ c. search needs)
     strand-texts-requires
     add-second
     sub-strand-texts

@@ -10,6 +10,5 @@ pub needed-for-spec : {M : Type 1} → statement M
 needed-for-spec =
     tie.close
     (tie.spec
-    (λ c. search needs)
-    (λ c. search needs)
+    (λ c. search needs) (λ c. search needs)
     returns)

@@ -46,14 +46,7 @@ pub restore-both-spec : {M : Type 1} → statement M
 restore-both-spec =
     tie.close
     (tie.spec
-    (λ c κs. tt)
-    (λ c. search needs)
-    (λ c. search needs)
-    (λ c. search needs)
+    (λ c κs. tt) (λ c. search needs) (λ c. search needs) (λ c. search needs)
     returns
-    (λ c. search needs)
-    (λ c. search needs)
-    (λ c. search needs)
-    (λ c κs. tt)
-    (λ c. search needs)
+    (λ c. search needs) (λ c. search needs) (λ c. search needs) (λ c κs. tt) (λ c. search needs)
     returns-2)

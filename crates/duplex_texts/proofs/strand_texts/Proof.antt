@@ -40,12 +40,9 @@ pub strand-texts-spec : {M : Type 1} → statement M
 strand-texts-spec =
     tie.close
     (tie.spec
-    (λ c. search needs)
-    (λ c. search needs)
+    (λ c. search needs) (λ c. search needs)
     returns
-    (λ c. refl)
-    (λ c κs. tt)
-    (λ c κs. tt)
+    (λ c. refl) (λ c κs. tt) (λ c κs. tt)
     (λ c. sym (c .before .before .ml2 .given))
     write-behind-requires
     (λ c. search needs)

@@ -45,8 +45,7 @@ pub write-groups-spec : {M : Type 1} → statement M
 write-groups-spec =
     tie.close
     (tie.spec
-    (λ c κs. tt)
-    (λ c κs. tt)
+    (λ c κs. tt) (λ c κs. tt)
     write-joined-requires
     write-joined-requires-2
     (λ c. c .before .out .given)

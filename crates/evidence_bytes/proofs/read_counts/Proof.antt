@@ -60,11 +60,9 @@ read-counts-spec =
     (λ c. omega (arith, room (c .before .before .before)))
     (λ c. omega (arith, room (c .before .before .before)))
     (λ c. omega (arith, room (c .before .before .before .before)))
-    (λ c κs. tt)
-    (λ c. omega arith)
+    (λ c κs. tt) (λ c. omega arith)
     slice-write-counts
-    (λ c. omega arith)
-    (λ c. omega arith)
+    (λ c. omega arith) (λ c. omega arith)
     loop-again
     same-length
     returns)

@@ -46,8 +46,7 @@ read-marks-spec =
     (λ c. omega arith)
     shared-slice-read-marks
     slice-write-marks
-    (λ c. omega arith)
-    (λ c. omega arith)
+    (λ c. omega arith) (λ c. omega arith)
     loop-again
     same-length
     returns)

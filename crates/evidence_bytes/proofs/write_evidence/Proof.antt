@@ -64,13 +64,9 @@ write-evidence-spec =
     μ-loop
     (λ c κs. tt)
     loop-holds
-    (λ c. omega arith)
-    (λ c κs. tt)
-    (λ c κs. tt)
-    (λ c. omega arith)
+    (λ c. omega arith) (λ c κs. tt) (λ c κs. tt) (λ c. omega arith)
     store-position-requires
-    (λ c. omega arith)
-    (λ c. omega arith)
+    (λ c. omega arith) (λ c. omega arith)
     loop-again
     same-length
     returns)

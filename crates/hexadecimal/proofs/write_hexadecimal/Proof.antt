@@ -45,8 +45,7 @@ write-hexadecimal-spec =
     loop-holds
     digit-at-requires
     slice-write-out
-    (λ c. omega arith)
-    (λ c. omega arith)
+    (λ c. omega arith) (λ c. omega arith)
     loop-again
     same-length
     returns)

@@ -15,8 +15,6 @@ pub write-closing-spec : {M : Type 1} → statement M
 write-closing-spec =
     tie.close
     (tie.spec
-    (λ c κs. tt)
-    (λ c. search needs)
-    (λ c κs. tt)
+    (λ c κs. tt) (λ c. search needs) (λ c κs. tt)
     (λ c. same-size (returns c .0 .written))
     returns)

@@ -19,12 +19,6 @@ pub write-columns-spec : {M : Type 1} → statement M
 write-columns-spec =
     tie.close
     (tie.spec
-    (λ c κs. tt)
-    (λ c. search needs)
-    (λ c κs. tt)
-    (λ c κs. tt)
-    (λ c. search needs)
-    (λ c κs. tt)
-    (λ c κs. tt)
+    (λ c κs. tt) (λ c. search needs) (λ c κs. tt) (λ c κs. tt) (λ c. search needs) (λ c κs. tt) (λ c κs. tt)
     (λ c. same-size (returns c .0 .written))
     returns)

@@ -16,11 +16,7 @@ pub write-gate-spec : {M : Type 1} → statement M
 write-gate-spec =
     tie.close
     (tie.spec
-    (λ c. search needs)
-    (λ c κs. tt)
-    (λ c. search needs)
+    (λ c. search needs) (λ c κs. tt) (λ c. search needs)
     returns
-    (λ c. search needs)
-    (λ c κs. tt)
-    (λ c. search needs)
+    (λ c. search needs) (λ c κs. tt) (λ c. search needs)
     returns-2)

@@ -21,15 +21,8 @@ pub write-kind-spec : {M : Type 1} → statement M
 write-kind-spec =
     tie.close
     (tie.spec
-    (λ c. search needs)
-    (λ c. search needs)
-    (λ c κs. tt)
-    (λ c. search needs)
-    (λ c. search needs)
-    (λ c κs. tt)
-    (λ c. search needs)
-    (λ c. search needs)
-    (λ c κs. tt)
+    (λ c. search needs) (λ c. search needs) (λ c κs. tt) (λ c. search needs) (λ c. search needs) (λ c κs. tt)
+    (λ c. search needs) (λ c. search needs) (λ c κs. tt)
     (λ c. same-size (c .before .before .write-text .ensures .written))
     returns
     (λ c. same-size (c .before .before .write-text2 .ensures .written))

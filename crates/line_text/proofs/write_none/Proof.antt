@@ -17,9 +17,6 @@ pub write-none-spec : {M : Type 1} → statement M
 write-none-spec =
     tie.close
     (tie.spec
-    (λ c. search needs)
-    (λ c κs. tt)
-    (λ c. search needs)
-    (λ c κs. tt)
+    (λ c. search needs) (λ c κs. tt) (λ c. search needs) (λ c κs. tt)
     (λ c. same-size (returns c .0))
     returns)

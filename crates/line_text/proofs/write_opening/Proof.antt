@@ -17,9 +17,6 @@ pub write-opening-spec : {M : Type 1} → statement M
 write-opening-spec =
     tie.close
     (tie.spec
-    (λ c. search needs)
-    (λ c κs. tt)
-    (λ c κs. tt)
-    (λ c κs. tt)
+    (λ c. search needs) (λ c κs. tt) (λ c κs. tt) (λ c κs. tt)
     (λ c. same-size (returns c .written))
     returns)

@@ -20,10 +20,6 @@ pub write-refused-spec : {M : Type 1} → statement M
 write-refused-spec =
     tie.close
     (tie.spec
-    (λ c. search needs)
-    (λ c κs. tt)
-    (λ c κs. tt)
-    (λ c. search needs)
-    (λ c κs. tt)
+    (λ c. search needs) (λ c κs. tt) (λ c κs. tt) (λ c. search needs) (λ c κs. tt)
     (λ c. same-size (returns c .0))
     returns)

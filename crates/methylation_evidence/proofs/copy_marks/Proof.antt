@@ -36,11 +36,9 @@ copy-marks-spec =
     μ-loop
     (λ c κs. tt)
     loop-holds
-    (λ c. omega arith)
-    (λ c κs. tt)
+    (λ c. omega arith) (λ c κs. tt)
     slice-write-out
-    (λ c. omega arith)
-    (λ c. omega arith)
+    (λ c. omega arith) (λ c. omega arith)
     loop-again
     (λ c. same (c .before .loop .inv .filling))
     (λ c. done (c .before .loop .inv .filling) (c .loop-test .left)))

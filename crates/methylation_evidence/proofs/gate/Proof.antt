@@ -62,8 +62,7 @@ gate-spec =
     slice-write-unconverted
     (λ c. omega arith)
     slice-write-converted
-    (λ c. omega arith)
-    (λ c. omega arith)
+    (λ c. omega arith) (λ c. omega arith)
     loop-again
     (λ c. same (c .before .loop .inv .marks))
     (λ c. same (c .before .loop .inv .unconverted))

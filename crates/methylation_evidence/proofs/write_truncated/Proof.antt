@@ -24,16 +24,11 @@ pub write-truncated-spec : {M : Type 1} → statement M
 write-truncated-spec =
     tie.close
     (tie.spec
-    (λ c. search needs)
-    (λ c. search needs)
+    (λ c. search needs) (λ c. search needs)
     (λ c. c .before .before .before .before .before .before .pre .0 .0)
-    (λ c κs. tt)
-    (λ c. search needs)
-    (λ c. search needs)
+    (λ c κs. tt) (λ c. search needs) (λ c. search needs)
     (λ c. c .before .before .before .before .before .before .before .before .before .before .before .pre .1 .0 .0)
-    (λ c κs. tt)
-    (λ c. search needs)
-    (λ c. search needs)
+    (λ c κs. tt) (λ c. search needs) (λ c. search needs)
     (λ c. c .before .before .before .before .before .before .before .before .before .before .before .before .before .before .before .before .pre .1 .1 .0)
     (λ c κs. tt)
     (λ c. c .before .before .before .before .before .before .before .before .before .before .before .marks-out .given)

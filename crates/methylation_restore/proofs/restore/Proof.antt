@@ -45,8 +45,7 @@ restore-spec =
     slice-read-restored-base
     (λ c κs. tt)
     slice-write-bases
-    (λ c. omega arith)
-    (λ c. omega arith)
+    (λ c. omega arith) (λ c. omega arith)
     loop-again
     (λ c. same (c .before .loop .inv))
     returns)

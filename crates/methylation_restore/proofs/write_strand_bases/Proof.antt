@@ -45,10 +45,7 @@ pub write-strand-bases-spec : {M : Type 1} → statement M
 write-strand-bases-spec =
     tie.close
     (tie.spec
-    (λ c κs. tt)
-    (λ c. search needs)
-    (λ c. search needs)
-    (λ c. search needs)
+    (λ c κs. tt) (λ c. search needs) (λ c. search needs) (λ c. search needs)
     returns
     (λ c κs. tt)
     restore-requires

@@ -13,7 +13,5 @@ pub in-bits-spec : {M : Type 1} → statement M
 in-bits-spec =
     tie.close
     (tie.spec
-    (λ c. search needs)
-    (λ c. search needs)
-    (λ c. search needs)
+    (λ c. search needs) (λ c. search needs) (λ c. search needs)
     returns)

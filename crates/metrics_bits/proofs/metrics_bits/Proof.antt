@@ -18,9 +18,7 @@ pub metrics-bits-spec : {M : Type 1} → statement M
 metrics-bits-spec =
     tie.close
     (tie.spec
-    (λ c κs. tt)
-    (λ c. search needs)
-    (λ c. search needs)
+    (λ c κs. tt) (λ c. search needs) (λ c. search needs)
     in-bits-requires
     returns
     returns-2)

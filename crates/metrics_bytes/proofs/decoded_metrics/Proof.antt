@@ -57,15 +57,7 @@ pub decoded-metrics-spec : {M : Type 1} → statement M
 decoded-metrics-spec =
     tie.close
     (tie.spec
-    (λ c. refl)
-    (λ c κs. tt)
-    (λ c. refl)
-    (λ c κs. tt)
-    (λ c. refl)
-    (λ c κs. tt)
-    (λ c. refl)
-    (λ c κs. tt)
-    (λ c. refl)
+    (λ c. refl) (λ c κs. tt) (λ c. refl) (λ c κs. tt) (λ c. refl) (λ c κs. tt) (λ c. refl) (λ c κs. tt) (λ c. refl)
     (λ c κs. tt)
     (λ c. zero≤)
     (λ c. zero≤)

@@ -23,8 +23,7 @@ pub metrics-of-bytes-spec : {M : Type 1} → statement M
 metrics-of-bytes-spec =
     tie.close
     (tie.spec
-    (λ c κs. tt)
-    (λ c κs. tt)
+    (λ c κs. tt) (λ c κs. tt)
     (λ c. zero≤)
     (λ c. zero≤)
     (λ c. c .before .counted .ensures .1)

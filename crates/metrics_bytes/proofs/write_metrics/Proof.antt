@@ -76,8 +76,7 @@ write-metrics-spec =
     (λ c κs. tt)
     returns
     decoded-metrics-requires
-    (λ c. search needs)
-    (λ c. search needs)
+    (λ c. search needs) (λ c. search needs)
     write-record-requires
     returns-2
     (λ c. search needs)

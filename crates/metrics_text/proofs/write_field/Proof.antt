@@ -15,8 +15,5 @@ pub write-field-spec : {M : Type 1} → statement M
 write-field-spec =
     tie.close
     (tie.spec
-    (λ c. search needs)
-    (λ c κs. tt)
-    (λ c κs. tt)
-    (λ c. search needs)
+    (λ c. search needs) (λ c κs. tt) (λ c κs. tt) (λ c. search needs)
     returns)

@@ -18,8 +18,5 @@ pub write-figures-spec : {M : Type 1} → statement M
 write-figures-spec =
     tie.close
     (tie.spec
-    (λ c κs. tt)
-    (λ c κs. tt)
-    (λ c κs. tt)
-    (λ c. search needs)
+    (λ c κs. tt) (λ c κs. tt) (λ c κs. tt) (λ c. search needs)
     returns)

@@ -13,8 +13,5 @@ pub write-rate-field-spec : {M : Type 1} → statement M
 write-rate-field-spec =
     tie.close
     (tie.spec
-    (λ c. search needs)
-    (λ c κs. tt)
-    (λ c κs. tt)
-    (λ c. search needs)
+    (λ c. search needs) (λ c κs. tt) (λ c κs. tt) (λ c. search needs)
     returns)

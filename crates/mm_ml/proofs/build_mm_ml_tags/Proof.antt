@@ -130,6 +130,5 @@ build-mm-ml-tags-spec =
     returns-2
     returns-3
     write-mm-ml-requires
-    (λ c. search needs)
-    (λ c. search needs)
+    (λ c. search needs) (λ c. search needs)
     returns-4)

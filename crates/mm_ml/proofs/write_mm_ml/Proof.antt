@@ -144,9 +144,7 @@ write-mm-ml-spec =
     (tie.spec
     Inv-loop
     μ-loop
-    (λ c κs. tt)
-    (λ c. search needs)
-    (λ c κs. tt)
+    (λ c κs. tt) (λ c. search needs) (λ c κs. tt)
     loop-holds
     called-at-requires
     write-skip-requires

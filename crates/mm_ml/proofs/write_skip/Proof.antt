@@ -37,12 +37,9 @@ pub write-skip-spec : {M : Type 1} → statement M
 write-skip-spec =
     tie.close
     (tie.spec
-    (λ c. search needs)
-    (λ c. search needs)
+    (λ c. search needs) (λ c. search needs)
     sub-write-decimal
     part-write-decimal-start
-    (λ c. search needs)
-    (λ c κs. tt)
-    (λ c. search needs)
+    (λ c. search needs) (λ c κs. tt) (λ c. search needs)
     same-length
     written)

@@ -76,14 +76,11 @@ fields-fit-spec =
     Inv-loop
     μ-loop
     (λ c. (omega arith, refl))
-    (λ c κs. tt)
-    (λ c. search needs)
+    (λ c κs. tt) (λ c. search needs)
     returns
     (λ c. search needs)
     returns-2
-    (λ c. search needs)
-    (λ c κs. tt)
-    (λ c κs. tt)
+    (λ c. search needs) (λ c κs. tt) (λ c κs. tt)
     returns-3
     add-at
     loop-less

@@ -84,8 +84,7 @@ find-spec =
     Inv-loop
     μ-loop
     loop-holds
-    (λ c κs. tt)
-    (λ c. search needs)
+    (λ c κs. tt) (λ c. search needs)
     returns
     (λ c. search needs)
     returns-2

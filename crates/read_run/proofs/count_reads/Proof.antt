@@ -52,8 +52,7 @@ count-reads-spec =
     Inv-loop
     μ-loop
     (λ c. begin)
-    (λ c κs. tt)
-    (λ c. search needs)
+    (λ c κs. tt) (λ c. search needs)
     returns
     (λ c. search needs)
     returns-2

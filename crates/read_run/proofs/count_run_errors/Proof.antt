@@ -56,14 +56,12 @@ count-run-errors-spec =
     Inv-loop
     μ-loop
     (λ c. begin)
-    (λ c κs. tt)
-    (λ c. search needs)
+    (λ c κs. tt) (λ c. search needs)
     same-length
     returns
     (λ c. search needs)
     same-length-2
     returns-2
-    (λ c. search needs)
-    (λ c κs. tt)
+    (λ c. search needs) (λ c κs. tt)
     loop-less
     loop-again)

@@ -77,12 +77,7 @@ pub next-read-spec : {M : Type 1} → statement M
 next-read-spec =
     tie.close
     (tie.spec
-    (λ c κs. tt)
-    (λ c. search needs)
-    (λ c. search needs)
-    (λ c. search needs)
-    (λ c κs. tt)
-    (λ c κs. tt)
+    (λ c κs. tt) (λ c. search needs) (λ c. search needs) (λ c. search needs) (λ c κs. tt) (λ c κs. tt)
     add-t9
     (λ c. flagged (c .before .before))
     add-t9-2

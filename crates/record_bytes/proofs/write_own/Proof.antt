@@ -27,13 +27,6 @@ pub write-own-spec : {M : Type 1} → statement M
 write-own-spec =
     tie.close
     (tie.spec
-    (λ c κs. tt)
-    (λ c κs. tt)
-    (λ c κs. tt)
-    (λ c κs. tt)
-    (λ c κs. tt)
-    (λ c κs. tt)
-    (λ c. search needs)
-    (λ c. search needs)
-    (λ c. search needs)
+    (λ c κs. tt) (λ c κs. tt) (λ c κs. tt) (λ c κs. tt) (λ c κs. tt) (λ c κs. tt) (λ c. search needs)
+    (λ c. search needs) (λ c. search needs)
     returns)

@@ -12,6 +12,5 @@ pub none-line-spec : {M : Type 1} → statement M
 none-line-spec =
     tie.close
     (tie.spec
-    (λ c. search needs)
-    (λ c κs. tt)
+    (λ c. search needs) (λ c κs. tt)
     returns)

@@ -16,6 +16,5 @@ pub record-line-spec : {M : Type 1} → statement M
 record-line-spec =
     tie.close
     (tie.spec
-    (λ c κs. tt)
-    (λ c κs. tt)
+    (λ c κs. tt) (λ c κs. tt)
     returns)

@@ -21,12 +21,7 @@ pub report-line-spec : {M : Type 1} → statement M
 report-line-spec =
     tie.close
     (tie.spec
-    (λ c. search needs)
-    (λ c κs. tt)
-    (λ c. search needs)
-    (λ c κs. tt)
-    (λ c. search needs)
-    (λ c κs. tt)
+    (λ c. search needs) (λ c κs. tt) (λ c. search needs) (λ c κs. tt) (λ c. search needs) (λ c κs. tt)
     returns
     returns-2
     returns-3)

@@ -18,13 +18,5 @@ main-spec =
     (tie.spec
     Inv-loop
     μ-loop
-    (λ c. search needs)
-    (λ c. search needs)
-    (λ c. search needs)
-    (λ c κs. tt)
-    (λ c κs. omega arith)
-    (λ c. omega arith)
-    (λ c. search needs)
-    (λ c. search needs)
-    (λ c κs. tt)
-    (λ c. tt))
+    (λ c. search needs) (λ c. search needs) (λ c. search needs) (λ c κs. tt) (λ c κs. omega arith) (λ c. omega arith)
+    (λ c. search needs) (λ c. search needs) (λ c κs. tt) (λ c. tt))

@@ -78,7 +78,5 @@ begin-annotation-spec =
     mark-informative-requires
     clear-counts-requires
     clear-counts-requires-2
-    (λ c. search needs)
-    (λ c. search needs)
-    (λ c. search needs)
+    (λ c. search needs) (λ c. search needs) (λ c. search needs)
     returns-2)

@@ -37,8 +37,7 @@ clear-counts-spec =
     loop-holds
     (λ c. omega arith)
     slice-write-counts
-    (λ c. omega arith)
-    (λ c. omega arith)
+    (λ c. omega arith) (λ c. omega arith)
     loop-again
     same-length
     returns)

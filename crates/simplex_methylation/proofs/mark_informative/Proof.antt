@@ -40,11 +40,9 @@ mark-informative-spec =
     Inv-loop
     μ-loop
     loop-holds
-    (λ c κs. tt)
-    (λ c κs. tt)
+    (λ c κs. tt) (λ c κs. tt)
     slice-write-marks-out
-    (λ c. omega arith)
-    (λ c. omega arith)
+    (λ c. omega arith) (λ c. omega arith)
     loop-again
     same-length
     returns)

@@ -33,10 +33,7 @@ pub add-read-errors-spec : {M : Type 1} → statement M
 add-read-errors-spec =
     tie.close
     (tie.spec
-    (λ c κs. tt)
-    (λ c κs. tt)
-    (λ c κs. tt)
-    (λ c. search needs)
+    (λ c κs. tt) (λ c κs. tt) (λ c κs. tt) (λ c. search needs)
     add-uncalled-errors-requires
     (λ c κs. tt)
     add-called-errors-requires

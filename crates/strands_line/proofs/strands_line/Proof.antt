@@ -27,18 +27,7 @@ pub strands-line-spec : {M : Type 1} → statement M
 strands-line-spec =
     tie.close
     (tie.spec
-    (λ c. search needs)
-    (λ c. search needs)
-    (λ c. search needs)
-    (λ c. search needs)
-    (λ c. search needs)
-    (λ c. search needs)
-    (λ c. search needs)
-    (λ c. search needs)
-    (λ c. search needs)
-    (λ c κs. tt)
-    (λ c. search needs)
-    (λ c. search needs)
-    (λ c. search needs)
-    (λ c κs. tt)
+    (λ c. search needs) (λ c. search needs) (λ c. search needs) (λ c. search needs) (λ c. search needs)
+    (λ c. search needs) (λ c. search needs) (λ c. search needs) (λ c. search needs) (λ c κs. tt) (λ c. search needs)
+    (λ c. search needs) (λ c. search needs) (λ c κs. tt)
     returns)

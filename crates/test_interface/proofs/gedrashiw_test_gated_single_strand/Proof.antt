@@ -13,13 +13,6 @@ pub gedrashiw-test-gated-single-strand-spec : {M : Type 1} → statement M
 gedrashiw-test-gated-single-strand-spec =
     tie.close
     (tie.spec
-    (λ c κs. tt)
-    (λ c κs. tt)
-    (λ c κs. tt)
-    (λ c. search needs)
-    (λ c. search needs)
-    (λ c. search needs)
-    (λ c. search needs)
-    (λ c. search needs)
-    (λ c. search needs)
+    (λ c κs. tt) (λ c κs. tt) (λ c κs. tt) (λ c. search needs) (λ c. search needs) (λ c. search needs)
+    (λ c. search needs) (λ c. search needs) (λ c. search needs)
     returns)

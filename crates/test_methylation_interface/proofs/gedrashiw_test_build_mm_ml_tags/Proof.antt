@@ -14,10 +14,5 @@ pub gedrashiw-test-build-mm-ml-tags-spec : {M : Type 1} → statement M
 gedrashiw-test-build-mm-ml-tags-spec =
     tie.close
     (tie.spec
-    (λ c κs. tt)
-    (λ c κs. tt)
-    (λ c κs. tt)
-    (λ c κs. tt)
-    (λ c. search needs)
-    (λ c. search needs)
+    (λ c κs. tt) (λ c κs. tt) (λ c κs. tt) (λ c κs. tt) (λ c. search needs) (λ c. search needs)
     returns)

@@ -14,9 +14,5 @@ pub gedrashiw-test-build-mm-tag-no-ml-spec : {M : Type 1} → statement M
 gedrashiw-test-build-mm-tag-no-ml-spec =
     tie.close
     (tie.spec
-    (λ c κs. tt)
-    (λ c κs. tt)
-    (λ c κs. tt)
-    (λ c κs. tt)
-    (λ c. search needs)
+    (λ c κs. tt) (λ c κs. tt) (λ c κs. tt) (λ c κs. tt) (λ c. search needs)
     returns)

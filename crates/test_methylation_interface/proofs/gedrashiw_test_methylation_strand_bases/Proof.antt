@@ -14,8 +14,5 @@ pub gedrashiw-test-methylation-strand-bases-spec : {M : Type 1} → statement M
 gedrashiw-test-methylation-strand-bases-spec =
     tie.close
     (tie.spec
-    (λ c κs. tt)
-    (λ c κs. tt)
-    (λ c κs. tt)
-    (λ c. search needs)
+    (λ c κs. tt) (λ c κs. tt) (λ c κs. tt) (λ c. search needs)
     returns)

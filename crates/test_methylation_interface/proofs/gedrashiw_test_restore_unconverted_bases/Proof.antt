@@ -14,8 +14,5 @@ pub gedrashiw-test-restore-unconverted-bases-spec : {M : Type 1} → statement M
 gedrashiw-test-restore-unconverted-bases-spec =
     tie.close
     (tie.spec
-    (λ c κs. tt)
-    (λ c κs. tt)
-    (λ c κs. tt)
-    (λ c. search needs)
+    (λ c κs. tt) (λ c κs. tt) (λ c κs. tt) (λ c. search needs)
     returns)

@@ -48,8 +48,7 @@ print-bytes-spec =
     shared-slice-read-visible-byte
     (λ c κs. tt)
     slice-write-out
-    (λ c. omega arith)
-    (λ c. omega arith)
+    (λ c. omega arith) (λ c. omega arith)
     loop-again
     same-length
     returns)

@@ -14,11 +14,7 @@ pub write-item-spec : {M : Type 1} → statement M
 write-item-spec =
     tie.close
     (tie.spec
-    (λ c κs. tt)
-    (λ c. search needs)
+    (λ c κs. tt) (λ c. search needs)
     returns
-    (λ c. search needs)
-    (λ c κs. tt)
-    (λ c κs. tt)
-    (λ c. search needs)
+    (λ c. search needs) (λ c κs. tt) (λ c κs. tt) (λ c. search needs)
     returns-2)

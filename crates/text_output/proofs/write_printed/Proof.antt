@@ -11,11 +11,6 @@ pub write-printed-spec : {M : Type 1} → statement M
 write-printed-spec =
     tie.close
     (tie.spec
-    (λ c κs. tt)
-    (λ c. search needs)
-    (λ c. search needs)
-    (λ c. search needs)
-    (λ c κs. tt)
-    (λ c. search needs)
+    (λ c κs. tt) (λ c. search needs) (λ c. search needs) (λ c. search needs) (λ c κs. tt) (λ c. search needs)
     (λ c. search needs)
     returns)

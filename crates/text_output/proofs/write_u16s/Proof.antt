@@ -39,12 +39,9 @@ write-u16s-spec =
     μ-loop
     (λ c κs. tt)
     loop-holds
-    (λ c. search needs)
-    (λ c. omega arith)
+    (λ c. search needs) (λ c. omega arith)
     cast-write-item
-    (λ c κs. tt)
-    (λ c. omega arith)
-    (λ c. omega arith)
+    (λ c κs. tt) (λ c. omega arith) (λ c. omega arith)
     loop-again
     same-length
     returns)

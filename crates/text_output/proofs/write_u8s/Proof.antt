@@ -40,9 +40,7 @@ write-u8s-spec =
     loop-holds
     (λ c. omega arith)
     cast-write-item
-    (λ c κs. tt)
-    (λ c. omega arith)
-    (λ c. omega arith)
+    (λ c κs. tt) (λ c. omega arith) (λ c. omega arith)
     loop-again
     same-length
     returns)

@@ -31,10 +31,6 @@ largest-depth-spec =
     Inv-loop
     μ-loop
     (λ c. (omega arith, refl))
-    (λ c. omega arith)
-    (λ c. omega arith)
-    (λ c κs. tt)
-    (λ c. omega arith)
-    (λ c. omega arith)
+    (λ c. omega arith) (λ c. omega arith) (λ c κs. tt) (λ c. omega arith) (λ c. omega arith)
     loop-again
     returns)

@@ -32,10 +32,6 @@ smallest-depth-spec =
     μ-loop
     (λ c κs. tt)
     (λ c. (omega arith, c .at-u16 .ensures))
-    (λ c. omega arith)
-    (λ c. omega arith)
-    (λ c κs. tt)
-    (λ c. omega arith)
-    (λ c. omega arith)
+    (λ c. omega arith) (λ c. omega arith) (λ c κs. tt) (λ c. omega arith) (λ c. omega arith)
     loop-again
     returns)

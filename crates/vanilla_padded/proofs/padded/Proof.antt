@@ -65,12 +65,10 @@ pub padded-spec : {M : Type 1} → statement M
 padded-spec =
     tie.close
     (tie.spec
-    (λ c κs. tt)
-    (λ c κs. tt)
+    (λ c κs. tt) (λ c κs. tt)
     returns
     write-padded-requires
-    (λ c κs. tt)
-    (λ c κs. tt)
+    (λ c κs. tt) (λ c κs. tt)
     write-evidence-requires
     (λ c κs. tt)
     (λ c. c .before .before .before .before .before .before .before .before .before .before .before .before .before .before .before .before .before .before .before .before .bases-out .given)

@@ -36,8 +36,7 @@ copy-u8-spec =
     loop-holds
     (λ c. omega arith)
     slice-write-out
-    (λ c. omega arith)
-    (λ c. omega arith)
+    (λ c. omega arith) (λ c. omega arith)
     loop-again
     same-length
     returns)

@@ -34,8 +34,7 @@ fill-u8-spec =
     μ-loop
     loop-holds
     slice-write-out
-    (λ c. omega arith)
-    (λ c. omega arith)
+    (λ c. omega arith) (λ c. omega arith)
     loop-again
     same-length
     returns)

@@ -22,13 +22,9 @@ pub part-u8-spec : {M : Type 1} → statement M
 part-u8-spec =
     tie.close
     (tie.spec
-    (λ c κs. tt)
-    (λ c. search needs)
-    (λ c. search needs)
-    (λ c. search needs)
+    (λ c κs. tt) (λ c. search needs) (λ c. search needs) (λ c. search needs)
     returns
     add-end
-    (λ c. search needs)
-    (λ c. search needs)
+    (λ c. search needs) (λ c. search needs)
     part-result-end-2
     returns-2)
