@@ -17,11 +17,11 @@ use Rattle.duplex_kind.specs.Kind.{kindOf, givenFaults}
 use Rattle.duplex_kind.specs.declared.DuplexConsensus.{DuplexConsensus}
 use Rattle.duplex_kind.specs.declared.DuplexConsensus.the-variants.{Refused}
 use Rattle.duplex_record.specs.Record.{duplexFaults}
-use Rattle.strand_bytes.specs.Strand.{StrandBytes, strandBytes, strandOf}
-use Rattle.duplex_bytes.specs.Bytes.{seen, bytesFaults, bytesRefused}
-use Rattle.record_bytes.specs.Outputs.{RecordBytes, asArrays}
-use Rattle.record_bytes.proofs.Outputs.{bytes-refused}
-use Rattle.consensus_bytes.specs.Consensus.{ConsensusBytesAs}
+use Rattle.molecule_strand.specs.Strand.{StrandBytes, strandBytes, strandOf}
+use Rattle.molecule_consensus.specs.Bytes.{seen, bytesFaults, bytesRefused}
+use Rattle.c_record.specs.Outputs.{RecordBytes, asArrays}
+use Rattle.c_record.proofs.Outputs.{bytes-refused}
+use Rattle.c_consensus.specs.Consensus.{ConsensusBytesAs}
 use Rattle.c_interface.specs.Entry.{entryRefused, recordFor, ConsensusEntry}
 use Rattle.c_interface.specs.declared.DuplexRecord.{DuplexRecord}
 

@@ -10,9 +10,9 @@ use Rattle.refusals.specs.Refusal.{_if_, refusal}
 use Rattle.duplex_kind.specs.Kind.{kindOf}
 use Rattle.duplex_kind.specs.declared.DuplexConsensus.{DuplexConsensus}
 use Rattle.duplex_kind.specs.declared.DuplexConsensus.the-variants.{Refused, NoRecord, Ab, Ba, Both}
-use Rattle.strand_bytes.specs.Strand.{StrandBytes, annotationOf, strandBytes, strandOf}
-use Rattle.duplex_bytes.specs.Bytes.{seen, bytesFaults, bytesRecord}
-use Rattle.record_bytes.specs.Outputs.{RecordBytes, asBytes, asArrays, LeavesBytes}
+use Rattle.molecule_strand.specs.Strand.{StrandBytes, annotationOf, strandBytes, strandOf}
+use Rattle.molecule_consensus.specs.Bytes.{seen, bytesFaults, bytesRecord}
+use Rattle.c_record.specs.Outputs.{RecordBytes, asBytes, asArrays, LeavesBytes}
 use Rattle.c_interface.specs.declared.DuplexRecord.{DuplexRecord}
 
 -- 0 is no, any other number yes.

@@ -1,17 +1,17 @@
 // Entry points for C programs: numbers and byte slices, and answers as numbers. An array of wider numbers is passed as its bytes,
-// low byte first. This crate owns the numbers for what is there or not and for a kind; the calls are metrics_bytes's and
-// consensus_bytes's. Uses refusals, strand_bytes, duplex_kind, metrics_bytes and consensus_bytes.
+// low byte first. This crate owns the numbers for what is there or not and for a kind; the calls are c_metrics's and
+// c_consensus's. Uses refusals, molecule_strand, duplex_kind, c_metrics and c_consensus.
 ghost use mathlib.Core.Path.{_≡_};
 ghost use mathlib.Core.Bool.{_||_};
 ghost use Rattle.duplex_metrics.specs.Metrics.{input};
-ghost use Rattle.record_bytes.specs.Outputs.{recordBytes};
-ghost use Rattle.metrics_bytes.specs.Bytes.{seen, MetricsEntry};
+ghost use Rattle.c_record.specs.Outputs.{recordBytes};
+ghost use Rattle.c_metrics.specs.Bytes.{seen, MetricsEntry};
 ghost use Rattle.c_interface.specs.Entry.{yes, told, wrongPattern, strandGiven, recordFor, ConsensusEntry};
-use consensus_bytes::duplex_consensus_bytes;
+use c_consensus::duplex_consensus_bytes;
+use c_metrics::metrics_of_bytes;
 use duplex_kind::DuplexConsensus;
-use metrics_bytes::metrics_of_bytes;
+use molecule_strand::annotation_of;
 use refusals::BROKEN;
-use strand_bytes::annotation_of;
 
 // What a duplex record is: `refused` is the refusal's number, 0 for none; kind 0 is no record, 1 strand A alone, 2 strand B alone,
 // 3 both.

@@ -1,6 +1,6 @@
 // Reads an encoded molecule from standard input and prints its record: document 01's line program, on a tray. What is printed is
-// duplex_line's. The file stdin has the document's example, and stdout the lines that it prints.
-use duplex_line::duplex_line;
+// line_molecule's. The file stdin has the document's example, and stdout the lines that it prints.
+use line_molecule::duplex_line;
 
 const STDIN: i32 = 0;
 
