@@ -1,6 +1,6 @@
 // Replays test vectors: reads them from standard input, makes the call that each names, and writes a line for each: the call's
-// number, the answer, and every place of every output. oracle/README.md has the form of a vector. Uses every crate that has a
-// public call, io and libc.
+// number, the answer, and every place of every output. oracle/README.md has the form of a vector. Uses the crates whose calls it
+// makes, lists, byte_numbers, line_output, io and libc.
 mod of_caller;
 mod of_depths;
 mod of_methylation;
@@ -17,12 +17,12 @@ mod write;
 
 ghost use Prim.Native.Nat.{_<_};
 use crate::read::fields_fit;
-use crate::read::join_u16;
-use crate::read::u16_at;
-use crate::write::flush;
-use crate::write::put;
-use crate::write::put_digits;
-use crate::write::put_text;
+use crate::read::load;
+use crate::write::Answer;
+use crate::write::STDOUT;
+use crate::write::text;
+use crate::write::write_answer;
+use byte_numbers::u32_of;
 use lists::at_u8;
 
 const STDIN: i32 = 0;
@@ -64,64 +64,70 @@ const FIELDS: [u8; 33] = [
     2,
 ];
 
-// The calls by number: the same as in oracle/calls.rs and oracle/vectors.py.
-fn answer(call: u8, v: &[u8], out: &mut [u8], at: usize) -> usize {
+// The calls by number, in each function here the same as in oracle/calls.rs and oracle/vectors.py. First those without outputs, by
+// what they are asked of: numbers of 32 bits,
+fn of_words(call: u8, words: &[u32]) -> Answer {
     match call {
-        1 => of_caller::cap_quality(v, out, at),
-        2 => of_caller::clamp_per_base(v, out, at),
-        3 => of_caller::clamp_combined(v, out, at),
-        4 => of_caller::read_name(v, out, at),
-        5 => of_methylation::is_enabled(v, out, at),
-        6 => of_methylation::from_read_flags(v, out, at),
-        7 => of_methylation::bases(v, out, at),
-        8 => of_methylation::is_cpg_context(v, out, at),
-        9 => of_min_reads::validate(v, out, at),
-        10 => of_min_reads::min_yx_reads(v, out, at),
-        11 => of_min_reads::single_strand(v, out, at),
-        12 => of_reads::written_flags(v, out, at),
-        13 => of_reads::is_paired(v, out, at),
-        14 => of_reads::is_paired_r1(v, out, at),
-        15 => of_reads::is_paired_r2(v, out, at),
-        16 => of_reads::read_gate(v, out, at),
-        17 => of_reads::same_strand(v, out, at),
-        18 => of_partition::partition(v, out, at),
-        19 => of_molecule::is_error(v, out, at),
-        20 => of_molecule::molecule_call(v, out, at),
-        21 => of_vanilla::max_depth(v, out, at),
-        22 => of_vanilla::min_depth(v, out, at),
-        23 => of_vanilla::padded(v, false, out, at),
-        24 => of_vanilla::padded(v, true, out, at),
-        25 => of_partition::extract_strand(v, out, at),
-        26 => of_caller::error_rate(v, out, at),
-        27 => of_rates::rate_bits(v, out, at),
-        28 => of_metrics::strand_metrics(v, out, at),
-        29 => of_metrics::duplex_metrics(v, out, at),
-        30 => of_depths::combined_depths(v, out, at),
-        31 => of_depths::depth_range(v, out, at),
-        32 => of_position::position(v, out, at),
-        _ => at,
+        3 => of_caller::clamp_combined(words),
+        9 => of_min_reads::validate(words),
+        10 => of_min_reads::min_yx_reads(words),
+        _ => of_min_reads::single_strand(words),
     }
 }
 
-// Whether to go on, and how much of the buffer is full.
-struct Turn {
-    more: bool,
-    at: usize,
-}
-
-fn bad_vector(out: &mut [u8], at: usize) -> Turn {
-    Turn {
-        more: false,
-        at: put_text(out, at, b"bad vector\n"),
+// numbers of 16 bits,
+fn of_halves(call: u8, halves: &[u16], words: &[u32]) -> Answer {
+    match call {
+        1 => of_caller::cap_quality(halves),
+        2 => of_caller::clamp_per_base(halves),
+        6 => of_methylation::from_read_flags(halves),
+        13 => of_reads::is_paired(halves),
+        14 => of_reads::is_paired_r1(halves),
+        15 => of_reads::is_paired_r2(halves),
+        17 => of_reads::same_strand(halves),
+        21 => of_vanilla::max_depth(halves),
+        22 => of_vanilla::min_depth(halves),
+        26 => of_caller::error_rate(halves),
+        28 => of_metrics::strand_metrics(halves),
+        _ => of_words(call, words),
     }
 }
 
-fn put_line(call: u8, vector: &[u8], out: &mut [u8], at: usize) -> Turn {
-    let after = put_digits(out, at, call as u64);
-    let after = answer(call, vector, out, after);
-    Turn {
-        more: true,
-        at: put(out, after, b'\n'),
+// bytes,
+fn of_bytes(call: u8, vector: &[u8], halves: &[u16], words: &[u32]) -> Answer {
+    match call {
+        5 => of_methylation::is_enabled(vector),
+        7 => of_methylation::bases(vector),
+        12 => of_reads::written_flags(vector),
+        19 => of_molecule::is_error(vector),
+        20 => of_molecule::molecule_call(vector),
+        25 => of_partition::extract_strand(vector),
+        _ => of_halves(call, halves, words),
+    }
+}
+
+// and two of these.
+fn answer(call: u8, vector: &[u8], halves: &[u16], words: &[u32]) -> Answer {
+    match call {
+        8 => of_methylation::is_cpg_context(vector, words),
+        16 => of_reads::read_gate(halves, words),
+        31 => of_depths::depth_range(halves, words),
+        32 => of_position::position(vector, halves),
+        _ => of_bytes(call, vector, halves, words),
+    }
+}
+
+// Makes a call, and writes what it answers and the places of its outputs.
+fn replay_call(call: u8, vector: &[u8], halves: &[u16], words: &[u32]) {
+    match call {
+        4 => of_caller::read_name(vector),
+        18 => of_partition::partition(vector, halves, words),
+        23 => of_vanilla::padded(false, vector, halves, words),
+        24 => of_vanilla::padded(true, vector, halves, words),
+        27 => of_rates::rate_bits(words),
+        29 => of_metrics::duplex_metrics(vector, halves),
+        30 => of_depths::combined_depths(halves, words),
+        _ => write_answer(answer(call, vector, halves, words)),
     }
 }
 
@@ -129,33 +135,71 @@ fn fields_of(call: u8) -> u8 {
     at_u8(&FIELDS, call as usize, 0)
 }
 
-// One vector: reads it, and writes its line.
-fn replay_one(vector: &mut [u8], out: &mut [u8], at: usize) -> Turn {
-    let mut head = [0u8; 6];
-    let got = io::read_full(STDIN, &mut head);
-    if got == 0 {
-        return Turn { more: false, at };
-    }
-    let call = head[0];
-    let fields = head[1];
-    let size = join_u16(u16_at(&head, 1), u16_at(&head, 2)) as usize;
-    if (got < 6) | (fields == 0) | (fields != fields_of(call)) {
-        return bad_vector(out, at);
-    }
-    if vector.len() < size {
-        return bad_vector(out, at);
-    }
-    replay_body(call, fields, &mut vector[0..size], out, at)
+// The first bytes of a vector, as many as were there: its call, its number of fields and the number of bytes that follow.
+struct Head {
+    got: usize,
+    call: u8,
+    fields: u8,
+    size: usize,
 }
 
-fn replay_body(call: u8, fields: u8, vector: &mut [u8], out: &mut [u8], at: usize) -> Turn {
+fn read_head() -> Head {
+    let mut head = [0u8; 6];
+    let got = io::read_full(STDIN, &mut head);
+    Head {
+        got,
+        call: head[0],
+        fields: head[1],
+        size: u32_of(head[2], head[3], head[4], head[5]) as usize,
+    }
+}
+
+// Whether these bytes are what the head says of them.
+fn is_vector(head: Head, bytes: &[u8]) -> bool {
+    (head.got == 6)
+        & (head.fields != 0)
+        & (head.fields == fields_of(head.call))
+        & fields_fit(bytes, head.fields)
+}
+
+// Reads the rest of a vector and writes its line; whether it was one.
+fn replay_rest(head: Head, vector: &mut [u8], halves: &mut [u16], words: &mut [u32]) -> bool {
     if io::read_full(STDIN, vector) < vector.len() {
-        return bad_vector(out, at);
+        return false;
     }
-    if !fields_fit(vector, fields) {
-        return bad_vector(out, at);
+    if !is_vector(head, vector) {
+        return false;
     }
-    put_line(call, vector, out, at)
+    load(vector, head.fields, halves, words);
+    write_line(head.call, vector, halves, words);
+    true
+}
+
+fn write_line(call: u8, vector: &[u8], halves: &[u16], words: &[u32]) {
+    io::print_decimal(STDOUT, call as u64);
+    replay_call(call, vector, halves, words);
+    text(b"\n");
+}
+
+fn bad_vector() -> bool {
+    text(b"bad vector\n");
+    false
+}
+
+// One vector: reads it, and writes its line; whether there may be another.
+fn replay_one(vector: &mut [u8], halves: &mut [u16], words: &mut [u32]) -> bool {
+    let head = read_head();
+    if head.got == 0 {
+        return false;
+    }
+    let size = head.size;
+    if vector.len() < size {
+        return bad_vector();
+    }
+    if replay_rest(head, &mut vector[0..size], halves, words) {
+        return true;
+    }
+    bad_vector()
 }
 
 fn left(turns: u64, more: bool) -> u64
@@ -168,13 +212,10 @@ fn left(turns: u64, more: bool) -> u64
 // A proved loop ends, so this one counts down from a number that no run uses up.
 fn main() {
     let mut vector = [0u8; 262144];
-    let mut out = [0u8; 65536];
-    let mut at = 0;
+    let mut halves = [0u16; 18700];
+    let mut words = [0u32; 112200];
     let mut turns = u64::MAX;
     while turns > 0 {
-        let turn = replay_one(&mut vector, &mut out, at);
-        at = turn.at;
-        turns = left(turns, turn.more);
+        turns = left(turns, replay_one(&mut vector, &mut halves, &mut words));
     }
-    flush(&out, at);
 }

@@ -1,53 +1,33 @@
-// The calls of duplex_depths.
+// The calls of duplex_depths. Field 0: the positions; 1 and 2: the depths of both strands.
 use crate::read::PLACES;
+use crate::read::fill_u16s;
 use crate::read::one_usize;
 use crate::read::u16s;
-use crate::write::put_number;
-use crate::write::put_refused;
-use crate::write::put_u16s;
+use crate::write::Answer;
+use crate::write::number;
+use crate::write::refused;
+use crate::write::write_u16s;
 use duplex_depths::Combined;
 use duplex_depths::DepthRange;
 
-fn put_combined(out: &mut [u8], at: usize, answer: Combined) -> usize {
-    match answer {
-        Combined::Refused(row) => put_refused(out, at, row),
-        Combined::Written(positions) => put_number(out, at, positions as u64),
+pub(crate) fn depth_range(halves: &[u16], words: &[u32]) -> Answer {
+    match duplex_depths::depth_range(one_usize(words, 0), u16s(halves, 1), u16s(halves, 2)) {
+        DepthRange::Refused(row) => Answer::Refused(row),
+        DepthRange::Range { min, max } => Answer::Two(min as u64, max as u64),
     }
 }
 
-fn write_combined(
-    v: &[u8],
-    ab: &[u16],
-    ba: &[u16],
-    depths: &mut [u16],
-    out: &mut [u8],
-    at: usize,
-) -> usize {
-    let answer = duplex_depths::combined_depths(one_usize(v, 0), ab, ba, depths);
-    let after = put_combined(out, at, answer);
-    put_u16s(out, after, depths)
+fn combine(positions: usize, halves: &[u16], depths: &mut [u16]) {
+    match duplex_depths::combined_depths(positions, u16s(halves, 1), u16s(halves, 2), depths) {
+        Combined::Refused(row) => refused(row),
+        Combined::Written(positions) => number(positions as u64),
+    }
+    write_u16s(depths);
 }
 
-pub(crate) fn combined_depths(v: &[u8], out: &mut [u8], at: usize) -> usize {
-    let mut ab = [0u16; PLACES];
-    let mut ba = [0u16; PLACES];
+// Field 3: the output.
+pub(crate) fn combined_depths(halves: &[u16], words: &[u32]) {
     let mut depths = [0u16; PLACES];
-    let n1 = u16s(v, 1, &mut ab);
-    let n2 = u16s(v, 2, &mut ba);
-    let n3 = u16s(v, 3, &mut depths);
-    write_combined(v, &ab[..n1], &ba[..n2], &mut depths[..n3], out, at)
-}
-
-pub(crate) fn depth_range(v: &[u8], out: &mut [u8], at: usize) -> usize {
-    let mut ab = [0u16; PLACES];
-    let mut ba = [0u16; PLACES];
-    let n1 = u16s(v, 1, &mut ab);
-    let n2 = u16s(v, 2, &mut ba);
-    match duplex_depths::depth_range(one_usize(v, 0), &ab[..n1], &ba[..n2]) {
-        DepthRange::Refused(row) => put_refused(out, at, row),
-        DepthRange::Range { min, max } => {
-            let after = put_number(out, at, min as u64);
-            put_number(out, after, max as u64)
-        }
-    }
+    let n = fill_u16s(halves, 3, &mut depths);
+    combine(one_usize(words, 0), halves, &mut depths[..n]);
 }

@@ -1,10 +1,10 @@
 // The calls of methylation.
-use crate::read::field;
 use crate::read::one_u8;
 use crate::read::one_u16;
 use crate::read::one_usize;
-use crate::write::put_bool;
-use crate::write::put_number;
+use crate::read::u8s;
+use crate::write::Answer;
+use crate::write::of_bool;
 use methylation::ConversionPattern;
 use methylation::MethylationMode;
 
@@ -16,8 +16,8 @@ fn mode_of(n: u8) -> MethylationMode {
     }
 }
 
-pub(crate) fn is_enabled(v: &[u8], out: &mut [u8], at: usize) -> usize {
-    put_bool(out, at, mode_of(one_u8(v, 0)).is_enabled())
+pub(crate) fn is_enabled(vector: &[u8]) -> Answer {
+    of_bool(mode_of(one_u8(vector, 0)).is_enabled())
 }
 
 fn pattern_of(n: u8) -> ConversionPattern {
@@ -27,27 +27,27 @@ fn pattern_of(n: u8) -> ConversionPattern {
     }
 }
 
-pub(crate) fn put_pattern(out: &mut [u8], at: usize, pattern: ConversionPattern) -> usize {
+pub(crate) fn of_pattern(pattern: ConversionPattern) -> u64 {
     match pattern {
-        ConversionPattern::CToT => put_number(out, at, 0),
-        ConversionPattern::GToA => put_number(out, at, 1),
+        ConversionPattern::CToT => 0,
+        ConversionPattern::GToA => 1,
     }
 }
 
-pub(crate) fn from_read_flags(v: &[u8], out: &mut [u8], at: usize) -> usize {
-    let pattern = ConversionPattern::from_read_flags(one_u16(v, 0));
-    put_pattern(out, at, pattern)
+pub(crate) fn from_read_flags(halves: &[u16]) -> Answer {
+    Answer::One(of_pattern(ConversionPattern::from_read_flags(one_u16(halves, 0))))
 }
 
-pub(crate) fn bases(v: &[u8], out: &mut [u8], at: usize) -> usize {
-    let bases = pattern_of(one_u8(v, 0)).bases();
-    let after = put_number(out, at, bases.reference as u64);
-    let after = put_number(out, after, bases.unconverted as u64);
-    put_number(out, after, bases.converted as u64)
+pub(crate) fn bases(vector: &[u8]) -> Answer {
+    let bases = pattern_of(one_u8(vector, 0)).bases();
+    Answer::Three(
+        bases.reference as u64,
+        bases.unconverted as u64,
+        bases.converted as u64,
+    )
 }
 
-pub(crate) fn is_cpg_context(v: &[u8], out: &mut [u8], at: usize) -> usize {
-    let is_top_strand = one_u8(v, 2) != 0;
-    let is_context = methylation::is_cpg_context(field(v, 0, 1), one_usize(v, 1), is_top_strand);
-    put_bool(out, at, is_context)
+pub(crate) fn is_cpg_context(vector: &[u8], words: &[u32]) -> Answer {
+    let is_top_strand = one_u8(vector, 2) != 0;
+    of_bool(methylation::is_cpg_context(u8s(vector, 0), one_usize(words, 1), is_top_strand))
 }

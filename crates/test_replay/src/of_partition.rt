@@ -1,89 +1,73 @@
 // The calls of duplex_partition.
 use crate::read::PLACES;
-use crate::read::field;
-use crate::read::rows;
-use crate::read::u16s;
-use crate::write::put_number;
-use crate::write::put_refused;
-use crate::write::put_u8s;
-use crate::write::put_u16s;
+use crate::read::fill_rows;
+use crate::read::fill_u16s;
+use crate::read::u8s;
+use crate::write::Answer;
+use crate::write::number;
+use crate::write::refused;
+use crate::write::three;
+use crate::write::write_answer;
+use crate::write::write_u8s;
+use crate::write::write_u16s;
 use duplex_partition::BaseMi;
 use duplex_partition::MiPart;
 use duplex_partition::MiStrand;
 use duplex_partition::Partition;
 use lists::part_u8;
 
-pub(crate) fn extract_strand(v: &[u8], out: &mut [u8], at: usize) -> usize {
-    match duplex_partition::extract_strand_from_mi_bytes(field(v, 0, 1)) {
-        MiStrand::Unnamed => put_number(out, at, 0),
-        MiStrand::A => put_number(out, at, 1),
-        MiStrand::B => put_number(out, at, 2),
+pub(crate) fn extract_strand(vector: &[u8]) -> Answer {
+    match duplex_partition::extract_strand_from_mi_bytes(u8s(vector, 0)) {
+        MiStrand::Unnamed => Answer::One(0),
+        MiStrand::A => Answer::One(1),
+        MiStrand::B => Answer::One(2),
     }
 }
 
-fn put_base_mi(out: &mut [u8], at: usize, base_mi: BaseMi) -> usize {
+// The base MI, and its bytes.
+fn write_base_mi(bytes: &[u8], base_mi: BaseMi) {
     match base_mi {
-        BaseMi::Absent => put_number(out, at, 0),
+        BaseMi::Absent => {
+            number(0);
+            write_u8s(b"");
+        }
         BaseMi::Part { offset, length } => {
-            let after = put_number(out, at, 1);
-            let after = put_number(out, after, offset as u64);
-            put_number(out, after, length as u64)
+            three(1, offset as u64, length as u64);
+            write_u8s(part_u8(bytes, offset, length));
         }
     }
 }
 
-fn put_partition(out: &mut [u8], at: usize, answer: Partition) -> usize {
+fn write_partition(bytes: &[u8], answer: Partition) {
     match answer {
-        Partition::Refused(row) => put_refused(out, at, row),
+        Partition::Refused(row) => {
+            refused(row);
+            write_u8s(b"");
+        }
         Partition::Partitioned { a, b, base_mi } => {
-            let after = put_number(out, at, a as u64);
-            let after = put_number(out, after, b as u64);
-            put_base_mi(out, after, base_mi)
+            write_answer(Answer::Two(a as u64, b as u64));
+            write_base_mi(bytes, base_mi);
         }
     }
 }
 
-fn base_mi_of(answer: Partition) -> BaseMi {
-    match answer {
-        Partition::Refused(_) => BaseMi::Absent,
-        Partition::Partitioned {
-            a: _,
-            b: _,
-            base_mi,
-        } => base_mi,
-    }
-}
-
-fn mi_bytes(bytes: &[u8], base_mi: BaseMi) -> &[u8] {
-    match base_mi {
-        BaseMi::Absent => &bytes[0..0],
-        BaseMi::Part { offset, length } => part_u8(bytes, offset, length),
-    }
-}
-
-fn write_partition(
-    v: &[u8],
-    reads: &[MiPart],
-    a: &mut [u16],
-    b: &mut [u16],
-    out: &mut [u8],
-    at: usize,
-) -> usize {
-    let bytes = field(v, 1, 1);
+// Field 1: the MIs' bytes.
+fn write_lists(vector: &[u8], reads: &[MiPart], a: &mut [u16], b: &mut [u16]) {
+    let bytes = u8s(vector, 1);
     let answer = duplex_partition::partition_records_by_strand(reads, bytes, a, b);
-    let after = put_partition(out, at, answer);
-    let after = put_u8s(out, after, mi_bytes(bytes, base_mi_of(answer)));
-    let after = put_u16s(out, after, a);
-    put_u16s(out, after, b)
+    write_partition(bytes, answer);
+    write_u16s(a);
+    write_u16s(b);
 }
 
-pub(crate) fn partition(v: &[u8], out: &mut [u8], at: usize) -> usize {
+// Field 0: the reads; 2 and 3: the outputs.
+pub(crate) fn partition(vector: &[u8], halves: &[u16], words: &[u32]) {
     let row: MiPart = [0, 0, 0];
     let mut reads = [row; PLACES];
     let mut a = [0u16; PLACES];
     let mut b = [0u16; PLACES];
-    let n = rows(v, 0, &mut reads);
-    let na = u16s(v, 2, &mut a);
-    let nb = u16s(v, 3, &mut b);
-    write_partition(v, &reads[..n], &mut a[..na], &mut b[..nb], out, at)
+    let n = fill_rows(words, 0, &mut reads);
+    let na = fill_u16s(halves, 2, &mut a);
+    let nb = fill_u16s(halves, 3, &mut b);
+    write_lists(vector, &reads[..n], &mut a[..na], &mut b[..nb]);
 }

@@ -1,7 +1,7 @@
 // The calls of duplex_position and duplex_errors, at one position of two strands without annotation or list.
-use crate::read::field;
+use crate::read::u8s;
 use crate::read::u16s;
-use crate::write::put_number;
+use crate::write::Answer;
 use duplex_errors::estimate_agreeing;
 use duplex_errors::estimate_disagreeing;
 use duplex_position::combine_bases;
@@ -38,15 +38,14 @@ fn errors_of(raw: u8, a: Strand, b: Strand) -> u16 {
     estimate_disagreeing(b.errors, a.depth, a.errors)
 }
 
-// Field 0: A's base and quality, and B's; 1: A's depth and errors, and B's.
-pub(crate) fn position(v: &[u8], out: &mut [u8], at: usize) -> usize {
-    let mut numbers = [0u16; 4];
-    u16s(v, 1, &mut numbers);
-    let bases = field(v, 0, 1);
-    let a = strand_at(bases, &numbers, 0);
-    let b = strand_at(bases, &numbers, 2);
+fn combined(a: Strand, b: Strand) -> Answer {
     let p = combine_bases(a.base, a.qual, b.base, b.qual);
-    let after = put_number(out, at, p.base as u64);
-    let after = put_number(out, after, p.qual as u64);
-    put_number(out, after, errors_of(p.raw, a, b) as u64)
+    Answer::Three(p.base as u64, p.qual as u64, errors_of(p.raw, a, b) as u64)
+}
+
+// Field 0: A's base and quality, and B's; 1: A's depth and errors, and B's.
+pub(crate) fn position(vector: &[u8], halves: &[u16]) -> Answer {
+    let bases = u8s(vector, 0);
+    let numbers = u16s(halves, 1);
+    combined(strand_at(bases, numbers, 0), strand_at(bases, numbers, 2))
 }

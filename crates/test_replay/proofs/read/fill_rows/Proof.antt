@@ -1,24 +1,24 @@
--- `test_replay::read::rows` is safe and ends, and answers a number of places of out. Assumes nothing.
+-- `test_replay::read::fill_rows` is safe and ends, and answers a number of places of out. Assumes nothing.
 use Prim.Native.Nat.{_-_, _≤_}
 use mathlib.Core.Path.{_≡_, sym}
 use native.Mathlib.Omega.{arith}
 use borrow.Author.Needs.{needs}
 use lib.ListN.{length}
 use lib.Seq.{length-take-le}
-use Rattle.test_replay.proofs.read.rows.Statement.{statement}
-use Rattle.test_replay.proofs.read.rows.Tie as tie
+use Rattle.test_replay.proofs.read.fill_rows.Statement.{statement}
+use Rattle.test_replay.proofs.read.fill_rows.Tie as tie
 
 abbrev Inv-loop : tie.InvT-loop
-Inv-loop vector number out₀ bytes n i₀ out i = (i ≤ n) × (n ≤ length out) × (length out ≡ length out₀)
+Inv-loop words number out₀ rows n i₀ out i = (i ≤ n) × (n ≤ length out) × (length out ≡ length out₀)
 
 abbrev μ-loop : tie.MeasureT-loop
-μ-loop vector number out₀ bytes n i₀ out i = n - i
+μ-loop words number out₀ rows n i₀ out i = n - i
 
 returns : tie.Need-returns Inv-loop μ-loop
 returns c = (c .before .loop .inv .1, sym (length-take-le _ _ (c .before .loop .inv .1)))
 
-pub rows-spec : {M : Type 1} → statement M
-rows-spec =
+pub fill-rows-spec : {M : Type 1} → statement M
+fill-rows-spec =
     tie.close
     (tie.spec
     Inv-loop
