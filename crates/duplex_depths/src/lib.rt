@@ -16,7 +16,7 @@ use refusals::OUTPUT_TOO_SHORT;
 use refusals::TOO_LONG;
 use refusals::refuse_if;
 
-pub enum Combined {
+pub enum CombinedDepths {
     Refused(u8),
     // As many depths are written as the record has positions.
     Written(usize),
@@ -59,16 +59,16 @@ fn write_combined(positions: usize, ab: &[u16], ba: &[u16], out: &mut [u16])
 }
 
 // Writes the depths of both strands at each of the record's positions. Refuses by 7, 12.
-pub fn combined_depths(positions: usize, ab: &[u16], ba: &[u16], out: &mut [u16]) -> Combined
-    ensures { λ r. ⌜ r ≡ answer Combined.Refused (combinedRefused positions (now (ab .entry)) (now (ba .entry)) (now (out .entry))) (Combined.Written positions) ⌝ }
+pub fn combined_depths(positions: usize, ab: &[u16], ba: &[u16], out: &mut [u16]) -> CombinedDepths
+    ensures { λ r. ⌜ r ≡ answer CombinedDepths.Refused (combinedRefused positions (now (ab .entry)) (now (ba .entry)) (now (out .entry))) (CombinedDepths.Written positions) ⌝ }
     ensures { λ _. ⌜ now (out .exit) ≡ after (combinedRefused positions (now (ab .entry)) (now (ba .entry)) (now (out .entry))) (combinedDepths positions (now (ab .entry)) (now (ba .entry))) (now (out .entry)) ⌝ }
 {
     let number = combined_refusal(positions, ab.len(), ba.len(), out.len());
     if number != 0 {
-        return Combined::Refused(number);
+        return CombinedDepths::Refused(number);
     }
     write_combined(positions, ab, ba, out);
-    Combined::Written(positions)
+    CombinedDepths::Written(positions)
 }
 
 fn smallest_combined(positions: usize, ab: &[u16], ba: &[u16]) -> u16

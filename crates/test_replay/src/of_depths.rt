@@ -7,7 +7,7 @@ use crate::write::Answer;
 use crate::write::number;
 use crate::write::refused;
 use crate::write::write_u16s;
-use duplex_depths::Combined;
+use duplex_depths::CombinedDepths;
 use duplex_depths::DepthRange;
 
 pub(crate) fn depth_range(halves: &[u16], words: &[u32]) -> Answer {
@@ -19,8 +19,8 @@ pub(crate) fn depth_range(halves: &[u16], words: &[u32]) -> Answer {
 
 fn combine(positions: usize, halves: &[u16], depths: &mut [u16]) {
     match duplex_depths::combined_depths(positions, u16s(halves, 1), u16s(halves, 2), depths) {
-        Combined::Refused(row) => refused(row),
-        Combined::Written(positions) => number(positions as u64),
+        CombinedDepths::Refused(row) => refused(row),
+        CombinedDepths::Written(positions) => number(positions as u64),
     }
     write_u16s(depths);
 }

@@ -3,7 +3,7 @@ use borrow.Author.Tests.{ltb-false}
 use Rattle.lists.proofs.Told.{told-refused, told-written}
 use Rattle.refusals.proofs.Refusal.{passed}
 use Rattle.duplex_depths.specs.Depths.{combinedFaults}
-use Rattle.duplex_depths.specs.declared.Combined.the-variants.{Refused}
+use Rattle.duplex_depths.specs.declared.CombinedDepths.the-variants.{Refused}
 use Rattle.duplex_depths.proofs.combined_depths.Statement.{statement}
 use Rattle.duplex_depths.proofs.combined_depths.Tie as tie
 
