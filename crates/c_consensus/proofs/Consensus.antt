@@ -15,7 +15,7 @@ use Rattle.lists.specs.Part.{onlyIf}
 use Rattle.lists.specs.Table.{tabulate}
 use Rattle.lists.proofs.Output.{answer-refused, answer-passed, after-refused, after-passed, after-none}
 use Rattle.lists.proofs.Table.{length-tabulate}
-use Rattle.refusals.specs.Refusal.{_if_, refusal}
+use Rattle.refusals.specs.Refusal.{_if_, refusal, Broken, OutputTooShort}
 use Rattle.refusals.proofs.Refusal.{and-then}
 use Rattle.byte_numbers.specs.Bytes.{bytesOfAll}
 use Rattle.byte_numbers.specs.Groups.{joined}
@@ -191,19 +191,19 @@ module _ (a b : StrandBytes) (listed : Bool) (run : List ℕ) where
   inputs = inputsRefused a b listed run
 
   abbrev by-12 : RecordArrays → ℕ
-  by-12 out = refusal ((12 if outputsShort first second out kind) ∷ [])
+  by-12 out = refusal ((OutputTooShort if outputsShort first second out kind) ∷ [])
 
   split : (out : RecordArrays) → bytesRefused a b listed run out ≡ cond (eqb inputs 0) (by-12 out) inputs
   unfolding bytesFaults duplexFaults givenFaults inputsRefused
   split out =
-      and-then ((13 if broken a b listed run) ∷ strandFaults first second listed (length (readsOf run)) false) ((12 if outputsShort first second out kind) ∷ []) refl tt
+      and-then ((Broken if broken a b listed run) ∷ strandFaults first second listed (length (readsOf run)) false) ((OutputTooShort if outputsShort first second out kind) ∷ []) refl
 
   given-pass : inputs ≡ 0 → refusal (strandFaults first second listed (length (readsOf run)) false) ≡ 0
   unfolding inputsRefused givenFaults refusal
   given-pass z =
-      go (broken a b listed run) (sym (and-then ((13 if broken a b listed run) ∷ []) (strandFaults first second listed (length (readsOf run)) false) refl tt) ∙ z)
+      go (broken a b listed run) (sym (and-then ((Broken if broken a b listed run) ∷ []) (strandFaults first second listed (length (readsOf run)) false) refl) ∙ z)
     where
-      go : (p : Bool) {n : ℕ} → cond (eqb (refusal ((13 if p) ∷ [])) 0) n (refusal ((13 if p) ∷ [])) ≡ 0 → n ≡ 0
+      go : (p : Bool) {n : ℕ} → cond (eqb (refusal ((Broken if p) ∷ [])) 0) n (refusal ((Broken if p) ∷ [])) ≡ 0 → n ≡ 0
       go true e = absurd (omega arith)
       go false e = e
 
@@ -221,7 +221,7 @@ module _ (a b : StrandBytes) (listed : Bool) (run : List ℕ) where
         let number : suc m ≡ bytesRefused a b listed run (asArrays before) = sym (split (asArrays before) ∙ rw (ne-eqb inputs 0 (λ z. omega arith)) e) in
         let none : (suc m ≡ 0 → ⊥) = λ z. omega arith in
         let nothing = outputsRefused (writtenOf (annotated first) (annotated second) (Refused (suc m))) before in
-        let zero-number : 0 ≡ nothing = sym (ap (λ (short : Bool). refusal ((12 if short) ∷ [])) (same-short first second (asArrays before) (Refused (suc m)))) in
+        let zero-number : 0 ≡ nothing = sym (ap (λ (short : Bool). refusal ((OutputTooShort if short) ∷ [])) (same-short first second (asArrays before) (Refused (suc m)))) in
         record {
           answered = x .answered ∙ sym (answer-passed Refused (Refused (suc m)) zero-number refl) ∙ answer-refused Refused kind number none;
           outputs = record {
@@ -238,7 +238,7 @@ module _ (a b : StrandBytes) (listed : Bool) (run : List ℕ) where
     passed-on z p x =
         let w = writtenOf (annotated first) (annotated second) kind in
         let number : outputsRefused w before ≡ bytesRefused a b listed run (asArrays before) =
-        ap (λ (short : Bool). refusal ((12 if short) ∷ [])) (same-short first second (asArrays before) kind) ∙ sym (split (asArrays before) ∙ rw (eq-eqb inputs 0 z)) in
+        ap (λ (short : Bool). refusal ((OutputTooShort if short) ∷ [])) (same-short first second (asArrays before) kind) ∙ sym (split (asArrays before) ∙ rw (eq-eqb inputs 0 z)) in
         let written = same-fronts w (bytesRecord a b listed run) zeros now (sized first second listed _ (length (readsOf run)) kind (given-pass z) refl) p in
         record {
           answered = x .answered ∙ ap (λ (n : ℕ). answer Refused n kind) number;

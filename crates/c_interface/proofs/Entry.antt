@@ -10,7 +10,7 @@ use native.Mathlib.Omega.{arith}
 use lib.Dec.{eqb}
 use Rattle.lists.specs.Output.{answer}
 use Rattle.lists.proofs.Output.{answer-refused}
-use Rattle.refusals.specs.Refusal.{_if_, refusal}
+use Rattle.refusals.specs.Refusal.{_if_, refusal, Broken}
 use Rattle.refusals.proofs.Refusal.{and-then}
 use Rattle.methylation.specs.declared.Annotation.{Annotation}
 use Rattle.duplex_kind.specs.Kind.{kindOf, givenFaults}
@@ -26,7 +26,7 @@ use Rattle.c_interface.specs.Entry.{entryRefused, recordFor, ConsensusEn
 use Rattle.c_interface.specs.declared.DuplexRecord.{DuplexRecord}
 
 -- 13 comes first.
-by-13 : (wrong : Bool) (n : ℕ) → cond (eqb (refusal ((13 if wrong) ∷ [])) 0) n (refusal ((13 if wrong) ∷ [])) ≡ cond wrong 13 n
+by-13 : (wrong : Bool) (n : ℕ) → cond (eqb (refusal ((Broken if wrong) ∷ [])) 0) n (refusal ((Broken if wrong) ∷ [])) ≡ cond wrong 13 n
 unfolding refusal
 by-13 true n = refl
 by-13 false n = refl
@@ -44,7 +44,7 @@ module _ (p q : Bool) (a b : StrandBytes) (listed : Bool) (run : List ℕ) (befo
 
   is-first : entryRefused (p || q) a b listed run before ≡ cond (p || q) 13 (bytesRefused a b listed run (asArrays before))
   unfolding bytesFaults duplexFaults givenFaults
-  is-first = and-then ((13 if (p || q)) ∷ []) (bytesFaults a b listed run (asArrays before)) refl tt ∙ by-13 (p || q) (bytesRefused a b listed run (asArrays before))
+  is-first = and-then ((Broken if (p || q)) ∷ []) (bytesFaults a b listed run (asArrays before)) refl ∙ by-13 (p || q) (bytesRefused a b listed run (asArrays before))
 
   pub turned-down : {r : DuplexRecord} → (s || t) ≡ true → r ≡ recordFor (Refused 13) → ConsensusEntry (p || q) a b listed run before before r
   turned-down h e =

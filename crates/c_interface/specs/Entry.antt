@@ -6,7 +6,7 @@ use mathlib.Core.Bool.{Bool, not, _&&_}
 use mathlib.Core.List.{List, _∷_}
 use lib.Dec.{eqb, ltb}
 use Rattle.lists.specs.Output.{answer}
-use Rattle.refusals.specs.Refusal.{_if_, refusal}
+use Rattle.refusals.specs.Refusal.{_if_, refusal, Broken}
 use Rattle.duplex_kind.specs.Kind.{kindOf}
 use Rattle.duplex_kind.specs.declared.DuplexConsensus.{DuplexConsensus}
 use Rattle.duplex_kind.specs.declared.DuplexConsensus.the-variants.{Refused, NoRecord, Ab, Ba, Both}
@@ -34,7 +34,7 @@ strandGiven present annotated pattern bases quals depths errors evidence =
 
 -- Row 13 for a pattern, before all that refuses the library's call.
 abbrev pub entryRefused : Bool → StrandBytes → StrandBytes → Bool → List ℕ → RecordBytes → ℕ
-entryRefused wrong a b listed run out = refusal ((13 if wrong) ∷ bytesFaults a b listed run (asArrays out))
+entryRefused wrong a b listed run out = refusal ((Broken if wrong) ∷ bytesFaults a b listed run (asArrays out))
 
 -- An answer as numbers. Kind 0: none; 1: A alone; 2: B alone; 3: both.
 abbrev pub made : ℕ → ℕ → DuplexRecord

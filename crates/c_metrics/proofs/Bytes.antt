@@ -12,12 +12,12 @@ use mathlib.Core.List.{List, [], _∷_, _++_}
 use Prim.Native.Nat.{ℕ, zero, suc, _-_, _/_, _≤_}
 use native.Mathlib.Omega.{arith}
 use borrow.Author.Tests.{ltb-false, ne-eqb}
-use lib.Dec.{T, eqb, ltb}
+use lib.Dec.{eqb, ltb}
 use lib.ListN.{length, take, length-take}
 use Rattle.lists.proofs.Output.{answer-passed}
 use Rattle.byte_numbers.proofs.Bytes.{length-numbers}
-use Rattle.refusals.specs.Refusal.{Fault, _if_, order, sorted, refusal, refuseIf}
-use Rattle.refusals.proofs.Refusal.{listed, and-then}
+use Rattle.refusals.specs.Refusal.{Fault, _if_, order, sorted, refusal, refuseIf, Broken, OutputTooShort}
+use Rattle.refusals.proofs.Refusal.{and-then}
 use Rattle.duplex_metrics.specs.Metrics.{Input, lengths, metricsFaults, metricsRefused, metricsOf}
 use Rattle.duplex_metrics.specs.declared.Metrics.the-variants.{Refused}
 use Rattle.duplex_metrics.specs.declared.MetricsLengths.{MetricsLengths}
@@ -29,15 +29,14 @@ use Rattle.c_metrics.specs.Bytes.{Narrow, decoded, halves, entryFaults}
 -- A call that tests row 13, then another's faults, then row 12.
 wrapped :
     (p : Bool) (fs : List Fault) (q : Bool)
-    → sorted order ((13 if p) ∷ (fs ++ ((12 if q) ∷ []))) ≡ (13 if p) ∷ sorted order (fs ++ ((12 if q) ∷ []))
-    → sorted order (fs ++ ((12 if q) ∷ [])) ≡ sorted order fs ++ ((12 if q) ∷ [])
-    → T (listed fs)
-    → refusal ((13 if p) ∷ (fs ++ ((12 if q) ∷ []))) ≡ cond p 13 (cond (eqb (refusal fs) 0) (cond q 12 0) (refusal fs))
+    → sorted order ((Broken if p) ∷ (fs ++ ((OutputTooShort if q) ∷ []))) ≡ (Broken if p) ∷ sorted order (fs ++ ((OutputTooShort if q) ∷ []))
+    → sorted order (fs ++ ((OutputTooShort if q) ∷ [])) ≡ sorted order fs ++ ((OutputTooShort if q) ∷ [])
+    → refusal ((Broken if p) ∷ (fs ++ ((OutputTooShort if q) ∷ []))) ≡ cond p 13 (cond (eqb (refusal fs) 0) (cond q 12 0) (refusal fs))
 unfolding refusal
-wrapped p fs q first last t =
-    and-then ((13 if p) ∷ []) (fs ++ ((12 if q) ∷ [])) first tt
-    ∙ go p (refusal (fs ++ ((12 if q) ∷ [])))
-    ∙ ap (λ (n : ℕ). cond p 13 n) (and-then fs ((12 if q) ∷ []) last t)
+wrapped p fs q first last =
+    and-then ((Broken if p) ∷ []) (fs ++ ((OutputTooShort if q) ∷ [])) first
+    ∙ go p (refusal (fs ++ ((OutputTooShort if q) ∷ [])))
+    ∙ ap (λ (n : ℕ). cond p 13 n) (and-then fs ((OutputTooShort if q) ∷ []) last)
   where
     go : (p : Bool) (n : ℕ) → cond (eqb (cond p 13 0) 0) n (cond p 13 0) ≡ cond p 13 n
     go true n = refl
@@ -47,7 +46,7 @@ refusal-is :
     (broken : Bool) (n : MetricsLengths) (out : ℕ)
     → refusal (entryFaults broken n out) ≡ cond broken 13 (cond (eqb (refusal (metricsFaults n)) 0) (cond (ltb out 40) 12 0) (refusal (metricsFaults n)))
 unfolding entryFaults metricsFaults
-refusal-is broken n out = wrapped broken (metricsFaults n) (ltb out 40) refl refl tt
+refusal-is broken n out = wrapped broken (metricsFaults n) (ltb out 40) refl refl
 
 pub joined :
     (broken : Bool) (n : MetricsLengths) (out : ℕ) {first inner second last : ℕ}

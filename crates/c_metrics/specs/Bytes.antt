@@ -8,7 +8,7 @@ use lib.ListN.{length}
 use Rattle.lists.specs.Output.{after}
 use Rattle.lists.specs.Part.{onlyIf}
 use Rattle.byte_numbers.specs.Bytes.{words16, oddCount, bytes32}
-use Rattle.refusals.specs.Refusal.{Fault, _if_, any, tooShort, refusal}
+use Rattle.refusals.specs.Refusal.{Fault, _if_, any, tooShort, refusal, Broken, OutputTooShort}
 use Rattle.duplex_metrics.specs.Metrics.{Input, input, lengths, metricsFaults, metricsOf}
 use Rattle.duplex_metrics.specs.declared.MetricsLengths.{MetricsLengths}
 use Rattle.metrics_bits.specs.Bits.{metricsWords}
@@ -30,7 +30,7 @@ oddCounts n = any oddCount (n .a ∷ n .aErrors ∷ n .b ∷ n .bErrors ∷ n .e
 
 -- Row 13, then what refuses the library's call, then row 12 for 40 bytes of output.
 unfoldable pub entryFaults : Bool → MetricsLengths → ℕ → List Fault
-entryFaults broken n out = (13 if broken) ∷ (metricsFaults n ++ ((12 if tooShort 40 (out ∷ [])) ∷ []))
+entryFaults broken n out = (Broken if broken) ∷ (metricsFaults n ++ ((OutputTooShort if tooShort 40 (out ∷ [])) ∷ []))
 
 abbrev pub entryRefused : Input → List ℕ → ℕ
 entryRefused x out = refusal (entryFaults (oddCounts (lengths x)) (lengths (decoded x)) (length out))

@@ -13,7 +13,7 @@ use lib.ListN.{length, take, length-take}
 use lib.Seq.{take-all}
 use Rattle.lists.specs.Output.{put}
 use Rattle.lists.proofs.Output.{answer-refused, answer-passed, after-refused, after-passed}
-use Rattle.refusals.specs.Refusal.{_if_, refusal}
+use Rattle.refusals.specs.Refusal.{_if_, refusal, OutputTooShort}
 use Rattle.methylation.specs.Arrays.{evidencePlaces}
 use Rattle.byte_numbers.specs.Bytes.{numberOf, bytes16}
 use Rattle.byte_numbers.proofs.Groups.{length-by-group}
@@ -93,11 +93,11 @@ pub record Wrote (w : Written) (arrays : RecordArrays) (before now : RecordBytes
 all-of : (n : ℕ) (xs : List ℕ) {k : ℕ} → n ≤ k → take k (take n xs) ≡ take n xs
 all-of n xs {k} h = take-all k (take n xs) (omega (arith, length-take n xs))
 
-is-12 : {short : Bool} → short ≡ true → 12 ≡ refusal ((12 if short) ∷ [])
+is-12 : {short : Bool} → short ≡ true → 12 ≡ refusal ((OutputTooShort if short) ∷ [])
 unfolding refusal
 is-12 e = rw e
 
-is-0 : {short : Bool} → short ≡ false → 0 ≡ refusal ((12 if short) ∷ [])
+is-0 : {short : Bool} → short ≡ false → 0 ≡ refusal ((OutputTooShort if short) ∷ [])
 unfolding refusal
 is-0 e = rw e
 

@@ -5,7 +5,7 @@ use mathlib.Core.Bool.{Bool, false}
 use mathlib.Core.List.{List, [], _∷_}
 use lib.ListN.{take}
 use Rattle.lists.specs.Output.{answer, after}
-use Rattle.refusals.specs.Refusal.{_if_, refusal}
+use Rattle.refusals.specs.Refusal.{_if_, refusal, OutputTooShort}
 use Rattle.methylation.specs.Arrays.{EvidenceArrays, evidenceArrays, evidencePlaces}
 use Rattle.byte_numbers.specs.Bytes.{words16, bytes16}
 use Rattle.molecule_evidence.specs.Evidence.{marksOf, unconvertedOf, convertedOf, evidenceBytes}
@@ -63,7 +63,7 @@ unfoldable pub shortFor : Written → RecordArrays → Bool
 shortFor w out = recordTooShort (w .positions) (w .first) (w .second) (recordLengths out)
 
 abbrev pub outputsRefused : Written → RecordBytes → ℕ
-outputsRefused w out = refusal ((12 if shortFor w (asArrays out)) ∷ [])
+outputsRefused w out = refusal ((OutputTooShort if shortFor w (asArrays out)) ∷ [])
 
 -- The first so many positions of evidence.
 abbrev pub evidenceFronts : ℕ → EvidenceArrays → EvidenceArrays

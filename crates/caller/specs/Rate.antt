@@ -3,7 +3,7 @@ use Prim.Native.Nat.{ℕ}
 use mathlib.Core.List.{List, [], _∷_}
 use lib.ListN.{length}
 use Rattle.lists.specs.Output.{answer}
-use Rattle.refusals.specs.Refusal.{Fault, _if_, tooLong, ragged, refusal}
+use Rattle.refusals.specs.Refusal.{Fault, _if_, tooLong, ragged, refusal, TooLong, Ragged}
 use Rattle.numbers.specs.Numbers.{total}
 use Rattle.rates.specs.Rate.{rateOf}
 use Rattle.caller.specs.declared.ErrorRate.{ErrorRate}
@@ -12,8 +12,8 @@ use Rattle.caller.specs.declared.ErrorRate.the-variants.{Refused, Rate}
 -- By how many depths and how many errors there are.
 unfoldable pub rateFaults : ℕ → ℕ → List Fault
 rateFaults depths errors =
-    (7 if tooLong (depths ∷ errors ∷ []))
-    ∷ (8 if ragged (depths ∷ errors ∷ []))
+    (TooLong if tooLong (depths ∷ errors ∷ []))
+    ∷ (Ragged if ragged (depths ∷ errors ∷ []))
     ∷ []
 
 unfoldable pub errorRate : List ℕ → List ℕ → ErrorRate

@@ -16,7 +16,7 @@ use Rattle.lists.specs.Output.{unless, answer, put, after}
 use Rattle.lists.specs.Table.{tabulate}
 use Rattle.lists.proofs.Output.{put-equal}
 use Rattle.lists.proofs.Table.{tabulate-equal}
-use Rattle.refusals.specs.Refusal.{Fault, _if_, refusal}
+use Rattle.refusals.specs.Refusal.{Fault, _if_, refusal, TooManyReads, OutputTooShort}
 use Rattle.refusals.proofs.Refusal.{and-then, passed}
 use Rattle.caller.specs.Short.{short}
 use Rattle.vanilla_caller.specs.Strand.{lengths}
@@ -74,12 +74,12 @@ module _ (a b : Strand) (reads : List SourceRead) (bytes : List ℕ) (before : R
 
     few : length reads ≤ 1024
     unfolding duplexFaults givenFaults
-    few = ltb-false 1024 (length reads) (passed 9 faults tt tt refl z .0)
+    few = ltb-false 1024 (length reads) (passed TooManyReads faults refl z .0)
 
     room : n ≤ length (before .errors)
     unfolding duplexFaults givenFaults
     room =
-        let enough : recordTooShort n (annotated a) (annotated b) (recordLengths before) ≡ false = ap (outputsShort a b before) (sym k) ∙ passed 12 faults tt tt refl z .0 in
+        let enough : recordTooShort n (annotated a) (annotated b) (recordLengths before) ≡ false = ap (outputsShort a b before) (sym k) ∙ passed OutputTooShort faults refl z .0 in
         roomy n (annotated a) (annotated b) (recordLengths before) enough .own .1 .1 .0
 
     -- Both strands are there and even, and the record is as long as the shorter.
@@ -87,7 +87,7 @@ module _ (a b : Strand) (reads : List SourceRead) (bytes : List ℕ) (before : R
     unfolding duplexFaults givenFaults
     reach =
         let given = strandFaults a b true (length reads) outside in
-        let none : refusal given ≡ 0 = none-first (refusal given) _ (sym (and-then given ((12 if outputsShort a b before (kindOf a b)) ∷ []) refl tt) ∙ z) in
+        let none : refusal given ≡ 0 = none-first (refusal given) _ (sym (and-then given ((OutputTooShort if outputsShort a b before (kindOf a b)) ∷ []) refl) ∙ z) in
         let (_, kind, passes-a, passes-b) = is-both a b true (length reads) outside (sym (taken a b true (length reads) outside none) ∙ k) in
         let shorter : n ≡ min (positions a) (positions b) = cc in
         record {

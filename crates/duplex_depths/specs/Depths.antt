@@ -6,7 +6,7 @@ use lib.ListN.{length, getD}
 use Rattle.lists.specs.Output.{answer}
 use Rattle.lists.specs.Table.{tabulate}
 use Rattle.numbers.specs.Numbers.{saturatingAdd, largest, smallest}
-use Rattle.refusals.specs.Refusal.{Fault, _if_, tooLong, tooShort, refusal}
+use Rattle.refusals.specs.Refusal.{Fault, _if_, tooLong, tooShort, refusal, TooLong, OutputTooShort}
 use Rattle.duplex_depths.specs.declared.DepthRange.{DepthRange}
 use Rattle.duplex_depths.specs.declared.DepthRange.the-variants.{Refused, Range}
 
@@ -24,15 +24,15 @@ recordTooLong n ab ba = tooLong (n ∷ ab ∷ ba ∷ [])
 
 unfoldable pub combinedFaults : ℕ → ℕ → ℕ → ℕ → List Fault
 combinedFaults n ab ba out =
-    (7 if recordTooLong n ab ba)
-    ∷ (12 if tooShort n (out ∷ []))
+    (TooLong if recordTooLong n ab ba)
+    ∷ (OutputTooShort if tooShort n (out ∷ []))
     ∷ []
 
 abbrev pub combinedRefused : ℕ → List ℕ → List ℕ → List ℕ → ℕ
 combinedRefused n ab ba out = refusal (combinedFaults n (length ab) (length ba) (length out))
 
 unfoldable pub rangeFaults : ℕ → ℕ → ℕ → List Fault
-rangeFaults n ab ba = (7 if recordTooLong n ab ba) ∷ []
+rangeFaults n ab ba = (TooLong if recordTooLong n ab ba) ∷ []
 
 abbrev pub rangeRefused : ℕ → List ℕ → List ℕ → ℕ
 rangeRefused n ab ba = refusal (rangeFaults n (length ab) (length ba))

@@ -3,7 +3,7 @@ use Prim.Native.Nat.{ℕ}
 use mathlib.Core.List.{List, [], _∷_}
 use lib.ListN.{length, take}
 use Rattle.numbers.specs.Numbers.{largest}
-use Rattle.refusals.specs.Refusal.{_if_, tooLong}
+use Rattle.refusals.specs.Refusal.{_if_, tooLong, TooLong}
 use Rattle.duplex_reads.specs.Reads.{gate}
 use Rattle.duplex_reads.specs.declared.Gate.{Gate}
 
@@ -13,4 +13,4 @@ largestWithin n depths = largest (take n depths)
 
 -- A record of n positions, the depths of its strands, and the thresholds.
 unfoldable pub consensusGate : ℕ → List ℕ → List ℕ → List ℕ → Gate
-consensusGate n ab ba ts = gate ts ((7 if tooLong (n ∷ length ab ∷ length ba ∷ [])) ∷ []) (largestWithin n ab) (largestWithin n ba)
+consensusGate n ab ba ts = gate ts ((TooLong if tooLong (n ∷ length ab ∷ length ba ∷ [])) ∷ []) (largestWithin n ab) (largestWithin n ba)

@@ -9,7 +9,7 @@ use Prim.Native.Nat.{ℕ, zero, suc, min}
 use native.Mathlib.Omega.{arith}
 use Rattle.lists.specs.Output.{unless, answer}
 use Rattle.lists.proofs.Output.{answer-passed}
-use Rattle.refusals.specs.Refusal.{refusal}
+use Rattle.refusals.specs.Refusal.{refusal, TooLong, Ragged}
 use Rattle.refusals.proofs.Condition.{both-hold, neither}
 use Rattle.refusals.proofs.Refusal.{passed}
 use Rattle.vanilla_caller.specs.Strand.{lengths, strandTooLong, strandRagged}
@@ -91,8 +91,8 @@ module _ (a b : Strand) where
     unfolding givenFaults
     strands-pass z =
         let faults = strandFaults a b listed count leaving in
-        let (long-a, long-b) = neither (long (given a)) (long (given b)) (passed 7 faults tt tt refl z .0) in
-        let (uneven-a, uneven-b) = neither (uneven (given a)) (uneven (given b)) (passed 8 faults tt tt refl z .0) in (
+        let (long-a, long-b) = neither (long (given a)) (long (given b)) (passed TooLong faults refl z .0) in
+        let (uneven-a, uneven-b) = neither (uneven (given a)) (uneven (given b)) (passed Ragged faults refl z .0) in (
           λ h. record { not-long = where-present (a .present) _ long-a h; not-uneven = where-present (a .present) _ uneven-a h },
           λ h. record { not-long = where-present (b .present) _ long-b h; not-uneven = where-present (b .present) _ uneven-b h },
         )

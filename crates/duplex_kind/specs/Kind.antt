@@ -5,7 +5,7 @@ use mathlib.Core.List.{List, [], _∷_, foldl}
 use lib.Dec.{ltb}
 use lib.ListN.{length, take}
 use Rattle.lists.specs.Output.{answer}
-use Rattle.refusals.specs.Refusal.{Fault, _if_, tooMany, refusal}
+use Rattle.refusals.specs.Refusal.{Fault, _if_, tooMany, refusal, TooLong, Ragged, TooManyReads, PartOutside}
 use Rattle.methylation.specs.Methylation.{isAnnotated}
 use Rattle.methylation.specs.declared.Annotation.{Annotation}
 use Rattle.vanilla_caller.specs.Strand.{Arrays, lengths, strandTooLong, strandRagged}
@@ -77,10 +77,10 @@ uneven s = s .present && strandRagged (isAnnotated (s .annotation)) (s .lengths)
 -- counts by how many reads it has and whether a read's part leaves its buffer.
 unfoldable pub givenFaults : GivenStrand → GivenStrand → Bool → ℕ → Bool → List Fault
 givenFaults a b listed count leaving =
-    (7 if (long a || long b))
-    ∷ (8 if (uneven a || uneven b))
-    ∷ (9 if (listed && tooMany (count ∷ [])))
-    ∷ (10 if (listed && leaving))
+    (TooLong if (long a || long b))
+    ∷ (Ragged if (uneven a || uneven b))
+    ∷ (TooManyReads if (listed && tooMany (count ∷ [])))
+    ∷ (PartOutside if (listed && leaving))
     ∷ []
 
 abbrev pub strandFaults : Strand → Strand → Bool → ℕ → Bool → List Fault

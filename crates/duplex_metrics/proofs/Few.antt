@@ -12,7 +12,7 @@ use native.Mathlib.Omega.{arith}
 use lib.ListN.{length, take, length-take}
 use Rattle.lists.specs.Part.{onlyIf}
 use Rattle.lists.proofs.Part.{all-or-none}
-use Rattle.refusals.specs.Refusal.{tooLong, refusal}
+use Rattle.refusals.specs.Refusal.{tooLong, refusal, TooLong}
 use Rattle.refusals.proofs.Refusal.{passed}
 use Rattle.refusals.proofs.Condition.{nor-where, not-too-long}
 use Rattle.duplex_metrics.specs.Metrics.{metricsFaults}
@@ -30,7 +30,7 @@ unfolding metricsFaults
 few n e z =
     let first = n .a ∷ n .aErrors ∷ n .bases ∷ n .errors ∷ [] in
     let second = n .b ∷ n .bErrors ∷ [] in
-    let (short, short-second) = nor-where (tooLong first) (n .second) (tooLong second) (passed 7 (metricsFaults n) tt tt e z .0) in
+    let (short, short-second) = nor-where (tooLong first) (n .second) (tooLong second) (passed TooLong (metricsFaults n) e z .0) in
     let each = not-too-long first short in
     record {
       a = each .0;

@@ -8,7 +8,7 @@ use Rattle.lists.specs.Count.{countOf}
 use Rattle.lists.specs.Output.{answer}
 use Rattle.lists.specs.Part.{onlyIf}
 use Rattle.lists.specs.Table.{tabulate}
-use Rattle.refusals.specs.Refusal.{Fault, _if_, tooLong, ragged, refusal}
+use Rattle.refusals.specs.Refusal.{Fault, _if_, tooLong, ragged, refusal, TooLong, Ragged}
 use Rattle.numbers.specs.Numbers.{largest, smallest, total}
 use Rattle.dna.specs.Dna.{letterN}
 use lib.Ieee.{Float}
@@ -109,8 +109,8 @@ lengths x = record {
 -- The second strand's arrays count where there is one.
 unfoldable pub metricsFaults : MetricsLengths → List Fault
 metricsFaults n =
-    (7 if (tooLong (n .a ∷ n .aErrors ∷ n .bases ∷ n .errors ∷ []) || (n .second && tooLong (n .b ∷ n .bErrors ∷ []))))
-    ∷ (8 if ((ragged (n .a ∷ n .aErrors ∷ []) || ragged (n .bases ∷ n .errors ∷ [])) || (n .second && ragged (n .b ∷ n .bErrors ∷ []))))
+    (TooLong if (tooLong (n .a ∷ n .aErrors ∷ n .bases ∷ n .errors ∷ []) || (n .second && tooLong (n .b ∷ n .bErrors ∷ []))))
+    ∷ (Ragged if ((ragged (n .a ∷ n .aErrors ∷ []) || ragged (n .bases ∷ n .errors ∷ [])) || (n .second && ragged (n .b ∷ n .bErrors ∷ []))))
     ∷ []
 
 abbrev pub metricsRefused : Input → ℕ

@@ -5,7 +5,7 @@ use mathlib.Core.List.{List, [], _∷_}
 use lib.Dec.{eqb, leb, ltb}
 use lib.ListN.{length, getD}
 use Rattle.lists.specs.Output.{answer}
-use Rattle.refusals.specs.Refusal.{Fault, _if_, refusal}
+use Rattle.refusals.specs.Refusal.{Fault, _if_, refusal, NoThresholds, TooManyThresholds, XyAboveTotal, YxAboveXy}
 use Rattle.duplex_min_reads.specs.declared.MinReads.{MinReads}
 use Rattle.duplex_min_reads.specs.declared.Validated.{Validated}
 use Rattle.duplex_min_reads.specs.declared.Validated.the-variants.{Refused, Thresholds}
@@ -29,10 +29,10 @@ minReads ts = record { total = total ts; xy = xy ts; yx = yx ts }
 
 unfoldable pub faults : List ℕ → List Fault
 faults ts =
-    (1 if eqb (length ts) 0)
-    ∷ (2 if ltb 3 (length ts))
-    ∷ (3 if ltb (total ts) (xy ts))
-    ∷ (4 if ltb (xy ts) (yx ts))
+    (NoThresholds if eqb (length ts) 0)
+    ∷ (TooManyThresholds if ltb 3 (length ts))
+    ∷ (XyAboveTotal if ltb (total ts) (xy ts))
+    ∷ (YxAboveXy if ltb (xy ts) (yx ts))
     ∷ []
 
 -- The number of the refusal, 0 for none.

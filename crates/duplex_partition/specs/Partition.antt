@@ -8,7 +8,7 @@ use lib.ListN.{length, getD}
 use Rattle.lists.specs.Indices.{indices}
 use Rattle.lists.specs.Output.{answer, after}
 use Rattle.lists.specs.Part.{leaves, part}
-use Rattle.refusals.specs.Refusal.{Fault, _if_, tooMany, tooShort, refusal}
+use Rattle.refusals.specs.Refusal.{Fault, _if_, tooMany, tooShort, refusal, TooManyReads, PartOutside, OutputTooShort, NoMi, NoStrand}
 use Rattle.duplex_partition.specs.declared.BaseMi.{BaseMi}
 use Rattle.duplex_partition.specs.declared.BaseMi.the-variants.{Absent, Part}
 use Rattle.duplex_partition.specs.declared.MiStrand.{MiStrand}
@@ -72,11 +72,11 @@ anyMiLeaves n reads = foldl (λ met read. met || miLeaves n read) false reads
 -- places as there are reads.
 unfoldable pub partitionFaults : ℕ → Bool → ℕ → ℕ → ℕ → List Fault
 partitionFaults n leaving a b found =
-    (9 if tooMany (n ∷ []))
-    ∷ (10 if leaving)
-    ∷ (12 if tooShort n (a ∷ b ∷ []))
-    ∷ (5 if eqb found 5)
-    ∷ (6 if eqb found 6)
+    (TooManyReads if tooMany (n ∷ []))
+    ∷ (PartOutside if leaving)
+    ∷ (OutputTooShort if tooShort n (a ∷ b ∷ []))
+    ∷ (NoMi if eqb found 5)
+    ∷ (NoStrand if eqb found 6)
     ∷ []
 
 -- The reads, the bytes, and the lists of A and of B.

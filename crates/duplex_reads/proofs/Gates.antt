@@ -25,7 +25,7 @@ module _ (ts : List ℕ) (own : List Fault) (later : sorted order (faults ts ++ 
   counted a b =
       ap (λ (n : ℕ). answer Refused (refused ts) (answer Refused n (verdict a b))) e
       ∙ answer-then Refused (refused ts) (refusal own) (verdict a b)
-      ∙ ap (λ (n : ℕ). answer Refused n (verdict a b)) (sym (and-then (faults ts) own later tt))
+      ∙ ap (λ (n : ℕ). answer Refused n (verdict a b)) (sym (and-then (faults ts) own later))
 
   pub uncounted : (number ≡ 0 → ⊥) → (a b x y : ℕ) → gateAnswer ts number x y ≡ gate ts own a b
   unfolding gateAnswer

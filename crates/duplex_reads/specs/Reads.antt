@@ -5,7 +5,7 @@ use mathlib.Core.List.{List, [], _∷_, _++_, foldl}
 use lib.ListN.{length, getD}
 use Rattle.lists.specs.Count.{countOf}
 use Rattle.lists.specs.Output.{answer}
-use Rattle.refusals.specs.Refusal.{Fault, _if_, tooMany, refusal}
+use Rattle.refusals.specs.Refusal.{Fault, _if_, tooMany, refusal, TooManyReads}
 use Rattle.flags.specs.Flags.{paired, unmapped, mateUnmapped, reverse, firstSegment, lastSegment, isSet}
 use Rattle.duplex_min_reads.specs.MinReads.{faults, minReads, refused, reachesAll}
 use Rattle.duplex_reads.specs.declared.Gate.{Gate}
@@ -44,7 +44,7 @@ gateAnswer ts number a b = answer Refused (refused ts) (answer Refused number (c
 
 -- The reads of A and of B, and the thresholds.
 unfoldable pub readGate : List ℕ → List ℕ → List ℕ → Gate
-readGate a b ts = gate ts ((9 if tooMany (length a ∷ length b ∷ [])) ∷ []) (countR1 a) (countR1 b)
+readGate a b ts = gate ts ((TooManyReads if tooMany (length a ∷ length b ∷ [])) ∷ []) (countR1 a) (countR1 b)
 
 abbrev pub isReverse : ℕ → Bool
 isReverse flags = isSet flags reverse
@@ -57,7 +57,7 @@ unfoldable pub allReverseAs : Bool → List ℕ → Bool
 allReverseAs r reads = foldl (stillSame r) true reads
 
 unfoldable pub strandFaults : ℕ → List Fault
-strandFaults n = (9 if tooMany (n ∷ [])) ∷ []
+strandFaults n = (TooManyReads if tooMany (n ∷ [])) ∷ []
 
 -- All reads are oriented as the first is.
 unfoldable pub sameStrand : List ℕ → SameStrand

@@ -13,7 +13,7 @@ use borrow.Author.Tests.{eq-eqb, ne-eqb}
 use lib.Dec.{eqb}
 use Rattle.lists.specs.Output.{unless, answer}
 use Rattle.lists.proofs.Output.{answer-refused, answer-passed, answer-map, after-none}
-use Rattle.refusals.specs.Refusal.{Fault, _if_, refusal}
+use Rattle.refusals.specs.Refusal.{Fault, _if_, refusal, OutputTooShort}
 use Rattle.refusals.proofs.Refusal.{and-then}
 use Rattle.methylation.specs.Arrays.{evidenceArrays}
 use Rattle.vanilla_caller.specs.Strand.{lengths}
@@ -41,7 +41,7 @@ abbrev pub firstStrand : RecordArrays → RecordArrays
 firstStrand r = record { bases = r .bases; quals = r .quals; errors = r .errors; a = r .a; b = evidenceArrays [] [] [] }
 
 -- A strand that passes rows 7 and 8 is refused alone only by 12.
-single-12 : (s : Strand) (out : RecordArrays) → Passes s → singleRefused (s .annotation) (s .arrays) (firstStrand out) ≡ refusal ((12 if recordTooShort (positions s) (annotated s) false (recordLengths out)) ∷ [])
+single-12 : (s : Strand) (out : RecordArrays) → Passes s → singleRefused (s .annotation) (s .arrays) (firstStrand out) ≡ refusal ((OutputTooShort if recordTooShort (positions s) (annotated s) false (recordLengths out)) ∷ [])
 unfolding singleFaults recordTooShort refusal
 single-12 s out p = rw (p .not-long, p .not-uneven)
 
@@ -49,7 +49,7 @@ both-12 :
     (a b : Strand) (out : RecordArrays)
     → Passes a
     → Passes b
-    → combineRefused (a .annotation) (a .arrays) (b .annotation) (b .arrays) out ≡ refusal ((12 if recordTooShort (min (positions a) (positions b)) (annotated a) (annotated b) (recordLengths out)) ∷ [])
+    → combineRefused (a .annotation) (a .arrays) (b .annotation) (b .arrays) out ≡ refusal ((OutputTooShort if recordTooShort (min (positions a) (positions b)) (annotated a) (annotated b) (recordLengths out)) ∷ [])
 unfolding combineFaults refusal
 both-12 a b out p q = rw (p .not-long, p .not-uneven, q .not-long, q .not-uneven)
 
@@ -99,17 +99,17 @@ module _ (a b : Strand) (listed : Bool) (count : ℕ) (leaving : Bool) (before :
   given = strandFaults a b listed count leaving
 
   abbrev of-outputs : List Fault
-  of-outputs = (12 if outputsShort a b before (kindOf a b)) ∷ []
+  of-outputs = (OutputTooShort if outputsShort a b before (kindOf a b)) ∷ []
 
   abbrev refused : ℕ
   refused = duplexRefused a b listed count leaving before
 
   joined : refused ≡ cond (eqb (refusal given) 0) (refusal of-outputs) (refusal given)
   unfolding duplexFaults givenFaults
-  joined = and-then given of-outputs refl tt
+  joined = and-then given of-outputs refl
 
   -- Row 12 is left, of a record of kind k.
-  left-12 : {k : DuplexConsensus} → refusal given ≡ 0 → kindOf a b ≡ k → refused ≡ refusal ((12 if outputsShort a b before k) ∷ [])
+  left-12 : {k : DuplexConsensus} → refusal given ≡ 0 → kindOf a b ≡ k → refused ≡ refusal ((OutputTooShort if outputsShort a b before k) ∷ [])
   left-12 z k = rw (eq-eqb (refusal given) 0 z, k) at joined
 
   pub turned-down : {number : ℕ} → recordKind a b listed count leaving ≡ Refused number → DuplexAs a b listed count leaving uncounted before before (Refused number)

@@ -4,7 +4,7 @@ use mathlib.Core.Path.{_≡_}
 use mathlib.Core.Bool.{Bool, false}
 use mathlib.Core.List.{List, [], _∷_, _++_}
 use Rattle.lists.specs.Output.{answer}
-use Rattle.refusals.specs.Refusal.{Fault, _if_, refusal}
+use Rattle.refusals.specs.Refusal.{Fault, _if_, refusal, OutputTooShort}
 use Rattle.duplex_molecule.specs.Molecule.{ctInput}
 use Rattle.duplex_outputs.specs.Outputs.{RecordArrays, recordOf, recordLengths, recordTooShort, LeavesRecord}
 use Rattle.duplex_strands.specs.Combine.{bothArrays}
@@ -36,7 +36,7 @@ outputsShort a b out (Both n) = recordTooShort n (annotated a) (annotated b) (re
 
 -- Rows 7 to 10 are tested over all that is given, whether or not there will be a record.
 unfoldable pub duplexFaults : Strand → Strand → Bool → ℕ → Bool → RecordArrays → List Fault
-duplexFaults a b listed count leaving out = strandFaults a b listed count leaving ++ (12 if outputsShort a b out (kindOf a b)) ∷ []
+duplexFaults a b listed count leaving out = strandFaults a b listed count leaving ++ (OutputTooShort if outputsShort a b out (kindOf a b)) ∷ []
 
 abbrev pub duplexRefused : Strand → Strand → Bool → ℕ → Bool → RecordArrays → ℕ
 duplexRefused a b listed count leaving out = refusal (duplexFaults a b listed count leaving out)

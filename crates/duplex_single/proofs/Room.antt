@@ -3,7 +3,7 @@ use mathlib.Core.Path.{_≡_, refl}
 use mathlib.Core.Bool.{Bool, true, false, cond}
 use Prim.Native.Nat.{ℕ, _≤_}
 use native.Mathlib.Omega.{arith}
-use Rattle.refusals.specs.Refusal.{refusal}
+use Rattle.refusals.specs.Refusal.{refusal, Ragged, OutputTooShort}
 use Rattle.refusals.proofs.Refusal.{passed}
 use Rattle.methylation.specs.Methylation.{isAnnotated}
 use Rattle.methylation.specs.declared.Annotation.{Annotation}
@@ -39,8 +39,8 @@ module _ (annotation : Annotation) (s : Lengths) (out : RecordLengths) where
   room e z =
       let faults = singleFaults annotation s out in
       let annotated = isAnnotated annotation in
-      let same = even annotated s (passed 8 faults tt tt e z .0) in
-      let enough = roomy (s .bases) annotated false out (passed 12 faults tt tt e z .0) in
+      let same = even annotated s (passed Ragged faults e z .0) in
+      let enough = roomy (s .bases) annotated false out (passed OutputTooShort faults e z .0) in
       let there = same .evidence in
       let lent = enough .a in
       record {

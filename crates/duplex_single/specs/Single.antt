@@ -5,7 +5,7 @@ use mathlib.Core.Bool.{false}
 use mathlib.Core.List.{List, [], _∷_}
 use lib.ListN.{length}
 use Rattle.lists.specs.Output.{answer}
-use Rattle.refusals.specs.Refusal.{Fault, _if_, refusal}
+use Rattle.refusals.specs.Refusal.{Fault, _if_, refusal, TooLong, Ragged, OutputTooShort}
 use Rattle.methylation.specs.Arrays.{evidenceArrays, evidenceOnlyIf}
 use Rattle.methylation.specs.Methylation.{isAnnotated}
 use Rattle.methylation.specs.declared.Annotation.{Annotation}
@@ -30,9 +30,9 @@ singleArrays annotation s = record {
 -- The strand's annotation, the lengths of its arrays, and those of the outputs.
 unfoldable pub singleFaults : Annotation → Lengths → RecordLengths → List Fault
 singleFaults annotation s out =
-    (7 if strandTooLong (isAnnotated annotation) s)
-    ∷ (8 if strandRagged (isAnnotated annotation) s)
-    ∷ (12 if recordTooShort (s .bases) (isAnnotated annotation) false out)
+    (TooLong if strandTooLong (isAnnotated annotation) s)
+    ∷ (Ragged if strandRagged (isAnnotated annotation) s)
+    ∷ (OutputTooShort if recordTooShort (s .bases) (isAnnotated annotation) false out)
     ∷ []
 
 abbrev pub singleRefused : Annotation → Arrays → RecordArrays → ℕ

@@ -8,7 +8,7 @@ use mathlib.Core.Bool.{true, false, true≢false}
 use mathlib.Core.List.{[], _∷_}
 use Prim.Native.Nat.{ℕ, _≤_}
 use native.Mathlib.Omega.{arith}
-use Rattle.refusals.specs.Refusal.{refusal}
+use Rattle.refusals.specs.Refusal.{refusal, Ragged, OutputTooShort}
 use Rattle.refusals.proofs.Refusal.{passed}
 use Rattle.refusals.proofs.Condition.{Every, nor-where}
 use Rattle.methylation.specs.Methylation.{isAnnotated}
@@ -58,11 +58,11 @@ module _ (ma : Annotation) (a : Lengths) (mb : Annotation) (b : Lengths) (out : 
   common-room e z =
       let n = commonLength a b in
       let faults = combineFaults ma a mb b out in
-      let (even-a, even-b) = nor-where (strandRagged (isAnnotated ma) a) true (strandRagged (isAnnotated mb) b) (passed 8 faults tt tt e z .0) in
+      let (even-a, even-b) = nor-where (strandRagged (isAnnotated ma) a) true (strandRagged (isAnnotated mb) b) (passed Ragged faults e z .0) in
       record {
         strandA = reaches ma a n (omega arith) even-a;
         strandB = reaches mb b n (omega arith) (even-b refl);
-        outputs = roomy n (isAnnotated ma) (isAnnotated mb) out (passed 12 faults tt tt e z .0);
+        outputs = roomy n (isAnnotated ma) (isAnnotated mb) out (passed OutputTooShort faults e z .0);
       }
 
   -- Number and n are what the code has.

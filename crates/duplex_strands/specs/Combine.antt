@@ -4,7 +4,7 @@ use mathlib.Core.Path.{_≡_}
 use mathlib.Core.Bool.{Bool, _||_}
 use mathlib.Core.List.{List, [], _∷_}
 use Rattle.lists.specs.Output.{answer}
-use Rattle.refusals.specs.Refusal.{Fault, _if_, refusal}
+use Rattle.refusals.specs.Refusal.{Fault, _if_, refusal, TooLong, Ragged, OutputTooShort}
 use Rattle.methylation.specs.Arrays.{EvidenceArrays, evidenceArrays}
 use Rattle.methylation.specs.Methylation.{isAnnotated}
 use Rattle.methylation.specs.declared.Annotation.{Annotation}
@@ -41,9 +41,9 @@ bothArrays listed counted n ct ma a mb b = record {
 -- Rows 7 and 8 are tested over both strands, by their lengths and the outputs'.
 unfoldable pub combineFaults : Annotation → Lengths → Annotation → Lengths → RecordLengths → List Fault
 combineFaults ma a mb b out =
-    (7 if (strandTooLong (isAnnotated ma) a || strandTooLong (isAnnotated mb) b))
-    ∷ (8 if (strandRagged (isAnnotated ma) a || strandRagged (isAnnotated mb) b))
-    ∷ (12 if recordTooShort (commonLength a b) (isAnnotated ma) (isAnnotated mb) out)
+    (TooLong if (strandTooLong (isAnnotated ma) a || strandTooLong (isAnnotated mb) b))
+    ∷ (Ragged if (strandRagged (isAnnotated ma) a || strandRagged (isAnnotated mb) b))
+    ∷ (OutputTooShort if recordTooShort (commonLength a b) (isAnnotated ma) (isAnnotated mb) out)
     ∷ []
 
 abbrev pub combineRefused : Annotation → Arrays → Annotation → Arrays → RecordArrays → ℕ

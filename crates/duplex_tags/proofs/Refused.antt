@@ -15,7 +15,7 @@ use lib.Dec.{eqb}
 use lib.ListN.{length}
 use borrow.Author.Tests.{ltb-false, eqb-true, eqb-false}
 use Rattle.lists.specs.Output.{unless, answer}
-use Rattle.refusals.specs.Refusal.{Fault, _if_, refusal, refuseIf}
+use Rattle.refusals.specs.Refusal.{Fault, _if_, refusal, refuseIf, OutputTooShort}
 use Rattle.refusals.proofs.Condition.{neither}
 use Rattle.refusals.proofs.Refusal.{and-then}
 use Rattle.methylation.specs.Methylation.{isAnnotated}
@@ -43,7 +43,7 @@ unfolding kindCounts
 needed-lengths n a b xs ys for-a for-b = rw (tag-length a n xs for-a, tag-length b n ys for-b, summed-length n (countsOf a xs) (countsOf b ys))
 
 -- A single test of row 12.
-room-alone : (short : Bool) → refusal ((12 if short) ∷ []) ≡ cond short 12 0
+room-alone : (short : Bool) → refusal ((OutputTooShort if short) ∷ []) ≡ cond short 12 0
 unfolding refusal
 room-alone short = refl
 
@@ -59,11 +59,11 @@ module _ (mode : MethylationMode) (bases : List ℕ) (a b : Strand) (texts : Tex
 
   pub all-tests : duplexRefused mode bases a b texts counts ≡ cond (eqb given 0) (cond (short || few) 12 0) given
   unfolding duplexFaults givenFaults
-  all-tests = and-then (givenOf bases a b) ((12 if (short || few)) ∷ []) refl tt ∙ ap (λ (k : ℕ). cond (eqb given 0) k given) (room-alone (short || few))
+  all-tests = and-then (givenOf bases a b) ((OutputTooShort if (short || few)) ∷ []) refl ∙ ap (λ (k : ℕ). cond (eqb given 0) k given) (room-alone (short || few))
 
   texts-tests : textsRefused mode bases a b texts ≡ cond (eqb given 0) (cond short 12 0) given
   unfolding textsFaults givenFaults
-  texts-tests = and-then (givenOf bases a b) ((12 if short) ∷ []) refl tt ∙ ap (λ (k : ℕ). cond (eqb given 0) k given) (room-alone short)
+  texts-tests = and-then (givenOf bases a b) ((OutputTooShort if short) ∷ []) refl ∙ ap (λ (k : ℕ). cond (eqb given 0) k given) (room-alone short)
 
   -- What the call's own test looks at is what is written, where the sequence and the evidence are not refused.
   abbrev needed : KindLengths

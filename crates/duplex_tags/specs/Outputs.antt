@@ -6,7 +6,7 @@ use mathlib.Core.List.{List, [], _∷_, _++_}
 use lib.ListN.{length}
 use lib.Dec.{ltb}
 use Rattle.lists.specs.Output.{answer, after}
-use Rattle.refusals.specs.Refusal.{Fault, _if_, refusal}
+use Rattle.refusals.specs.Refusal.{Fault, _if_, refusal, OutputTooShort}
 use Rattle.methylation.specs.declared.MethylationMode.{MethylationMode}
 use Rattle.duplex_texts.specs.Texts.{Strand, TextArrays, duplexTexts}
 use Rattle.duplex_texts.specs.Outputs.{textLengths, givenOf, textsTooShort, LeavesTexts}
@@ -40,7 +40,7 @@ countsTooShort counts out = kindTooShort (kindLengths (counts .unconverted)) (ki
 unfoldable pub duplexFaults : MethylationMode → List ℕ → Strand → Strand → TextArrays → CountArrays → List Fault
 duplexFaults mode bases a b texts counts =
     givenOf bases a b
-    ++ (12 if (textsTooShort (textLengths (duplexTexts mode bases a b)) (textLengths texts) || countsTooShort (duplexCounts (length bases) a b) counts))
+    ++ (OutputTooShort if (textsTooShort (textLengths (duplexTexts mode bases a b)) (textLengths texts) || countsTooShort (duplexCounts (length bases) a b) counts))
     ∷ []
 
 abbrev pub duplexRefused : MethylationMode → List ℕ → Strand → Strand → TextArrays → CountArrays → ℕ

@@ -9,7 +9,7 @@ use mathlib.Core.List.{List, _∷_}
 use Prim.Native.Nat.{ℕ, _≤_}
 use lib.Dec.{eqb, ltb}
 use borrow.Author.Tests.{ltb-false, eq-eqb, ne-eqb}
-use Rattle.refusals.specs.Refusal.{Fault, refusal, ragged}
+use Rattle.refusals.specs.Refusal.{Fault, refusal, ragged, TooLong, Ragged, OutputTooShort}
 use Rattle.refusals.proofs.Refusal.{and-then, passed}
 use Rattle.refusals.proofs.Condition.{Every, not-ragged, neither}
 use Rattle.methylation.specs.Methylation.{isAnnotated}
@@ -42,9 +42,9 @@ pub as-long :
     → AsLong n a × AsLong n b
 unfolding givenFaults
 as-long n a b e z =
-    let short = neither (ltb 1024 n) _ (passed 7 _ tt tt e z .0) .0 in
+    let short = neither (ltb 1024 n) _ (passed TooLong _ e z .0) .0 in
     let few = ltb-false 1024 n short in
-    let (first, second) = neither (uneven n (a .annotation) (evidenceLengths (a .evidence))) (uneven n (b .annotation) (evidenceLengths (b .evidence))) (passed 8 _ tt tt e z .0) in
+    let (first, second) = neither (uneven n (a .annotation) (evidenceLengths (a .evidence))) (uneven n (b .annotation) (evidenceLengths (b .evidence))) (passed Ragged _ e z .0) in
     (strand-as-long n a few first, strand-as-long n b few second)
 
 module _ (mode : MethylationMode) (bases : List ℕ) (a b : Strand) (out : TextArrays) where
@@ -53,7 +53,7 @@ module _ (mode : MethylationMode) (bases : List ℕ) (a b : Strand) (out : TextA
 
   both-tests : textsRefused mode bases a b out ≡ cond (eqb (refusal (givenOf bases a b)) 0) (refusal room) (refusal (givenOf bases a b))
   unfolding textsFaults givenFaults
-  both-tests = and-then (givenOf bases a b) room refl tt
+  both-tests = and-then (givenOf bases a b) room refl
 
   pub refused-given : {n : ℕ} → n ≡ refusal (givenOf bases a b) → (n ≡ 0 → ⊥) → n ≡ textsRefused mode bases a b out
   refused-given {n} e h = rw (both-tests, ← e, ne-eqb n 0 h)
@@ -64,7 +64,7 @@ module _ (mode : MethylationMode) (bases : List ℕ) (a b : Strand) (out : TextA
 pub enough-room : (needed out : TextLengths) {n : ℕ} → n ≡ refusal (roomFaults needed out) → n ≡ 0 → RoomTexts needed out
 unfolding textsTooShort
 enough-room needed out e z =
-    let (h1, r1) = neither _ _ (passed 12 _ tt tt e z .0) in
+    let (h1, r1) = neither _ _ (passed OutputTooShort _ e z .0) in
     let (h2, r2) = neither _ _ r1 in
     let (h3, r3) = neither _ _ r2 in
     let (h4, h5) = neither _ _ r3 in

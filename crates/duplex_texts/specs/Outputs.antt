@@ -6,7 +6,7 @@ use mathlib.Core.List.{List, [], _∷_, _++_}
 use lib.ListN.{length}
 use lib.Dec.{ltb}
 use Rattle.lists.specs.Output.{answer, after}
-use Rattle.refusals.specs.Refusal.{Fault, _if_, tooLong, ragged, refusal}
+use Rattle.refusals.specs.Refusal.{Fault, _if_, tooLong, ragged, refusal, TooLong, Ragged, OutputTooShort}
 use Rattle.methylation.specs.Methylation.{isAnnotated}
 use Rattle.methylation.specs.declared.Annotation.{Annotation}
 use Rattle.methylation.specs.declared.MethylationMode.{MethylationMode}
@@ -30,8 +30,8 @@ uneven bases annotation e = isAnnotated annotation && ragged (bases ∷ three e)
 -- By the lengths of the sequence and of each strand's evidence.
 unfoldable pub givenFaults : ℕ → Annotation → EvidenceLengths → Annotation → EvidenceLengths → List Fault
 givenFaults bases a aLengths b bLengths =
-    (7 if (tooLong (bases ∷ []) || (long a aLengths || long b bLengths)))
-    ∷ (8 if (uneven bases a aLengths || uneven bases b bLengths))
+    (TooLong if (tooLong (bases ∷ []) || (long a aLengths || long b bLengths)))
+    ∷ (Ragged if (uneven bases a aLengths || uneven bases b bLengths))
     ∷ []
 
 abbrev pub givenOf : List ℕ → Strand → Strand → List Fault
@@ -55,7 +55,7 @@ textsTooShort needed out =
     || ltb (out .ml) (needed .ml))))
 
 abbrev pub roomFaults : TextLengths → TextLengths → List Fault
-roomFaults needed out = (12 if textsTooShort needed out) ∷ []
+roomFaults needed out = (OutputTooShort if textsTooShort needed out) ∷ []
 
 unfoldable pub textsFaults : MethylationMode → List ℕ → Strand → Strand → TextLengths → List Fault
 textsFaults mode bases a b out = givenOf bases a b ++ roomFaults (textLengths (duplexTexts mode bases a b)) out

@@ -15,7 +15,7 @@ use lib.ListN.{length, take}
 use lib.Seq.{take-take}
 use Rattle.lists.specs.Output.{answer, unless}
 use Rattle.lists.specs.Table.{tabulate}
-use Rattle.refusals.specs.Refusal.{_if_, tooLong, refusal}
+use Rattle.refusals.specs.Refusal.{_if_, tooLong, refusal, TooLong}
 use Rattle.refusals.proofs.Refusal.{and-then}
 use Rattle.byte_numbers.specs.Bytes.{words16}
 use Rattle.byte_numbers.specs.Groups.{byGroup}
@@ -41,7 +41,7 @@ long-gate : (n : ℕ) (ab ba ts : List ℕ) → 1024 < n → consensusGate n ab 
 unfolding consensusGate gate faults refusal
 long-gate n ab ba ts h =
     ap (λ (number : ℕ). answer Refused-gate number (cond (reachesAll (minReads ts) (largestWithin n ab) (largestWithin n ba)) Kept Below))
-    (and-then (faults ts) ((7 if tooLong (n ∷ length ab ∷ length ba ∷ [])) ∷ []) refl tt ∙ ap (λ (p : Bool). cond (eqb (refused ts) 0) (refusal ((7 if p) ∷ [])) (refused ts)) met)
+    (and-then (faults ts) ((TooLong if tooLong (n ∷ length ab ∷ length ba ∷ [])) ∷ []) refl ∙ ap (λ (p : Bool). cond (eqb (refused ts) 0) (refusal ((TooLong if p) ∷ [])) (refused ts)) met)
   where
     met : tooLong (n ∷ length ab ∷ length ba ∷ []) ≡ true
     met = rw (lt-ltb 1024 n h)

@@ -4,7 +4,7 @@ use mathlib.Core.List.{List, [], _∷_, map}
 use lib.ListN.{length, getD}
 use Rattle.lists.specs.Table.{tabulate}
 use Rattle.numbers.specs.Numbers.{saturatingAdd}
-use Rattle.refusals.specs.Refusal.{Fault, _if_, tooLong, tooShort, refusal}
+use Rattle.refusals.specs.Refusal.{Fault, _if_, tooLong, tooShort, refusal, TooLong, OutputTooShort}
 
 -- A count in a tag, held to 32,767, the largest number of i16.
 unfoldable pub tagCount : ℕ → ℕ
@@ -17,8 +17,8 @@ tagCounts counts = map tagCount counts
 -- By how many counts there are, and the length of the output.
 unfoldable pub countsFaults : ℕ → ℕ → List Fault
 countsFaults counts out =
-    (7 if tooLong (counts ∷ []))
-    ∷ (12 if tooShort counts (out ∷ []))
+    (TooLong if tooLong (counts ∷ []))
+    ∷ (OutputTooShort if tooShort counts (out ∷ []))
     ∷ []
 
 abbrev pub countsRefused : List ℕ → List ℕ → ℕ
@@ -35,8 +35,8 @@ summedCounts n a b = tabulate n (summedCount a b)
 -- By how many positions there are, and the lengths of the two arrays and of the output.
 unfoldable pub summedFaults : ℕ → ℕ → ℕ → ℕ → List Fault
 summedFaults n a b out =
-    (7 if tooLong (n ∷ a ∷ b ∷ []))
-    ∷ (12 if tooShort n (out ∷ []))
+    (TooLong if tooLong (n ∷ a ∷ b ∷ []))
+    ∷ (OutputTooShort if tooShort n (out ∷ []))
     ∷ []
 
 abbrev pub summedRefused : ℕ → List ℕ → List ℕ → List ℕ → ℕ

@@ -4,7 +4,7 @@ use mathlib.Core.Path.{_≡_}
 use mathlib.Core.List.{List, [], _∷_}
 use lib.ListN.{length, getD}
 use Rattle.lists.specs.Output.{answer}
-use Rattle.refusals.specs.Refusal.{Fault, _if_, refusal}
+use Rattle.refusals.specs.Refusal.{Fault, _if_, refusal, TooLong, Ragged}
 use Rattle.methylation.specs.Methylation.{evidenceIf}
 use Rattle.methylation.specs.declared.Evidence.{Evidence}
 use Rattle.methylation.specs.Arrays.{EvidenceArrays, evidenceTable, evidenceLengths, informative, evidenceTooLong, evidenceRagged, LeavesEvidence}
@@ -23,8 +23,8 @@ gated n e = evidenceTable n (gatedAt e)
 -- By the lengths of the arrays.
 unfoldable pub gateFaults : EvidenceLengths → List Fault
 gateFaults e =
-    (7 if evidenceTooLong e)
-    ∷ (8 if evidenceRagged e)
+    (TooLong if evidenceTooLong e)
+    ∷ (Ragged if evidenceRagged e)
     ∷ []
 
 abbrev pub gateRefused : EvidenceArrays → ℕ

@@ -4,7 +4,7 @@ use mathlib.Core.Path.{_≡_}
 use mathlib.Core.List.{List, [], _∷_, map}
 use lib.ListN.{length, take}
 use Rattle.lists.specs.Output.{answer}
-use Rattle.refusals.specs.Refusal.{Fault, _if_, refusal}
+use Rattle.refusals.specs.Refusal.{Fault, _if_, refusal, TooLong, Ragged, OutputTooShort}
 use Rattle.vanilla_caller.specs.Strand.{mark}
 use Rattle.methylation.specs.Arrays.{EvidenceArrays, evidenceLengths, evidenceTooLong, evidenceRagged, evidenceTooShort, LeavesEvidence}
 use Rattle.methylation.specs.declared.EvidenceLengths.{EvidenceLengths}
@@ -22,9 +22,9 @@ truncated len e = record {
 -- By the lengths of the arrays, how many positions are asked for, and the lengths of the outputs.
 unfoldable pub truncateFaults : EvidenceLengths → ℕ → EvidenceLengths → List Fault
 truncateFaults e len out =
-    (7 if evidenceTooLong e)
-    ∷ (8 if evidenceRagged e)
-    ∷ (12 if evidenceTooShort (min len (e .marks)) out)
+    (TooLong if evidenceTooLong e)
+    ∷ (Ragged if evidenceRagged e)
+    ∷ (OutputTooShort if evidenceTooShort (min len (e .marks)) out)
     ∷ []
 
 abbrev pub truncateRefused : EvidenceArrays → ℕ → EvidenceArrays → ℕ

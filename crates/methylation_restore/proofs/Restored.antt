@@ -18,7 +18,7 @@ use Rattle.lists.proofs.Output.{put-over}
 use Rattle.lists.proofs.Table.{length-tabulate, tabulate-equal}
 use Rattle.lists.proofs.Written.{getD-put}
 use Rattle.dna.specs.Dna.{sameLetter}
-use Rattle.refusals.specs.Refusal.{refusal}
+use Rattle.refusals.specs.Refusal.{refusal, Ragged, OutputTooShort}
 use Rattle.refusals.proofs.Refusal.{passed}
 use Rattle.refusals.proofs.Condition.{nor-where}
 use Rattle.methylation.specs.declared.Annotation.{Annotation}
@@ -72,6 +72,6 @@ pub strand-room :
     → (bases ≤ out) × (annotated ≡ true → marks ≡ bases)
 unfolding strandFaults
 strand-room annotated bases marks out n z = (
-  ltb-false _ _ (passed 12 _ tt tt n z .0),
-  λ here. eqb-true _ _ (not-false _ (nor-where false annotated (not (eqb marks bases)) (passed 8 _ tt tt n z .0) .1 here)),
+  ltb-false _ _ (passed OutputTooShort _ n z .0),
+  λ here. eqb-true _ _ (not-false _ (nor-where false annotated (not (eqb marks bases)) (passed Ragged _ n z .0) .1 here)),
 )

@@ -4,7 +4,7 @@ use mathlib.Core.Bool.{Bool, cond, _&&_, _||_}
 use mathlib.Core.List.{List, [], _∷_}
 use lib.ListN.{length, getD}
 use Rattle.lists.specs.Table.{tabulate}
-use Rattle.refusals.specs.Refusal.{Fault, _if_, tooLong, ragged, tooShort, refusal}
+use Rattle.refusals.specs.Refusal.{Fault, _if_, tooLong, ragged, tooShort, refusal, TooLong, Ragged, OutputTooShort}
 use Rattle.dna.specs.Dna.{sameLetter}
 use Rattle.methylation.specs.Methylation.{patternBases, isAnnotated}
 use Rattle.methylation.specs.declared.Annotation.{Annotation}
@@ -32,8 +32,8 @@ restored pattern marks bases = restoredTo (length bases) (patternBases pattern) 
 -- By how many bases and how many marks there are.
 unfoldable pub restoreFaults : ℕ → ℕ → List Fault
 restoreFaults bases marks =
-    (7 if tooLong (bases ∷ marks ∷ []))
-    ∷ (8 if ragged (bases ∷ marks ∷ []))
+    (TooLong if tooLong (bases ∷ marks ∷ []))
+    ∷ (Ragged if ragged (bases ∷ marks ∷ []))
     ∷ []
 
 abbrev pub restoreRefused : List ℕ → List ℕ → ℕ
@@ -47,9 +47,9 @@ strandBases (Of pattern) marks bases = restored pattern marks bases
 -- The marks count where there is an annotation.
 unfoldable pub strandFaults : Bool → ℕ → ℕ → ℕ → List Fault
 strandFaults annotated bases marks out =
-    (7 if (tooLong (bases ∷ []) || (annotated && tooLong (marks ∷ []))))
-    ∷ (8 if (annotated && ragged (bases ∷ marks ∷ [])))
-    ∷ (12 if tooShort bases (out ∷ []))
+    (TooLong if (tooLong (bases ∷ []) || (annotated && tooLong (marks ∷ []))))
+    ∷ (Ragged if (annotated && ragged (bases ∷ marks ∷ [])))
+    ∷ (OutputTooShort if tooShort bases (out ∷ []))
     ∷ []
 
 abbrev pub strandRefused : Annotation → List ℕ → List ℕ → List ℕ → ℕ

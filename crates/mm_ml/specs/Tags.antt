@@ -6,7 +6,7 @@ use mathlib.Core.List.{List, [], _∷_, _++_, map}
 use lib.ListN.{length, getD}
 use Rattle.lists.specs.Output.{answer, after}
 use Rattle.lists.specs.Part.{onlyIf}
-use Rattle.refusals.specs.Refusal.{Fault, _if_, tooLong, ragged, tooShort, refusal}
+use Rattle.refusals.specs.Refusal.{Fault, _if_, tooLong, ragged, tooShort, refusal, TooLong, Ragged, OutputTooShort}
 use Rattle.decimal.specs.Decimal.{listed}
 use Rattle.methylation.specs.Methylation.{isEnabled}
 use Rattle.methylation.specs.declared.ConversionPattern.{ConversionPattern}
@@ -94,8 +94,8 @@ pub record Counted (s : Annotated) (r : Lengths) : Type 0 where
 -- By the lengths of the sequence and of the evidence.
 abbrev pub strandFaults : ℕ → ℕ → ℕ → ℕ → List Fault
 strandFaults bases marks unconverted converted =
-    (7 if tooLong (bases ∷ marks ∷ unconverted ∷ converted ∷ []))
-    ∷ (8 if ragged (bases ∷ marks ∷ unconverted ∷ converted ∷ []))
+    (TooLong if tooLong (bases ∷ marks ∷ unconverted ∷ converted ∷ []))
+    ∷ (Ragged if ragged (bases ∷ marks ∷ unconverted ∷ converted ∷ []))
     ∷ []
 
 abbrev pub faultsOf : Annotated → List Fault
@@ -103,7 +103,7 @@ faultsOf s = strandFaults (length (s .bases)) (length (s .marks)) (length (s .un
 
 -- So many bytes go to each of two outputs of these lengths.
 abbrev pub roomFaults : ℕ → ℕ → ℕ → ℕ → List Fault
-roomFaults mmNeeded mm mlNeeded ml = (12 if (tooShort mmNeeded (mm ∷ []) || tooShort mlNeeded (ml ∷ []))) ∷ []
+roomFaults mmNeeded mm mlNeeded ml = (OutputTooShort if (tooShort mmNeeded (mm ∷ []) || tooShort mlNeeded (ml ∷ []))) ∷ []
 
 unfoldable pub tagsRefused : MethylationMode → Annotated → List ℕ → List ℕ → ℕ
 tagsRefused mode s mm ml = refusal (faultsOf s ++ roomFaults (length (mmText mode s)) (length mm) (length (mlArray mode s)) (length ml))

@@ -5,7 +5,7 @@ use mathlib.Core.Bool.{Bool, true, false, cond}
 use mathlib.Core.List.{List, [], _∷_, _++_}
 use Prim.Native.Nat.{ℕ}
 use Rattle.lists.specs.Output.{answer}
-use Rattle.refusals.specs.Refusal.{_if_, refusal}
+use Rattle.refusals.specs.Refusal.{_if_, refusal, OutputTooShort}
 use Rattle.methylation.specs.declared.Annotation.{Annotation}
 use Rattle.vanilla_caller.specs.Strand.{Arrays}
 use Rattle.duplex_outputs.specs.Outputs.{RecordArrays, LeavesRecord}
@@ -43,7 +43,7 @@ module _ (x : Annotation) (s t : Arrays) (other : Strand) (listed : Bool) (n : �
     unfolding duplexFaults givenFaults kindBy shorterPresent
     absent-first d =
         let same : duplexRefused (absent s) other listed n false before ≡ duplexRefused (absent t) other listed n false before =
-        ap (λ (z : Bool). refusal (strandFaults (absent s) other listed n false ++ (12 if z) ∷ [])) (short-first alone (positions other)) in
+        ap (λ (z : Bool). refusal (strandFaults (absent s) other listed n false ++ (OutputTooShort if z) ∷ [])) (short-first alone (positions other)) in
         record {
           answered = d .answered ∙ ap (λ (m : ℕ). answer Refused m (kindOf (absent s) other)) same;
           outputs =
@@ -55,7 +55,7 @@ module _ (x : Annotation) (s t : Arrays) (other : Strand) (listed : Bool) (n : �
     unfolding duplexFaults givenFaults kindBy shorterPresent
     absent-second d =
         let same : duplexRefused other (absent s) listed n false before ≡ duplexRefused other (absent t) listed n false before =
-        ap (λ (z : Bool). refusal (strandFaults other (absent s) listed n false ++ (12 if z) ∷ [])) (short-second alone (positions other)) in
+        ap (λ (z : Bool). refusal (strandFaults other (absent s) listed n false ++ (OutputTooShort if z) ∷ [])) (short-second alone (positions other)) in
         record {
           answered = d .answered ∙ ap (λ (m : ℕ). answer Refused m (kindOf other (absent s))) same;
           outputs =

@@ -11,7 +11,7 @@ use lib.ListN.{length}
 use Rattle.lists.specs.Output.{answer}
 use Rattle.lists.specs.Part.{onlyIf}
 use Rattle.lists.proofs.Output.{answer-refused}
-use Rattle.refusals.specs.Refusal.{refusal}
+use Rattle.refusals.specs.Refusal.{refusal, Broken, TooLong}
 use Rattle.refusals.proofs.Refusal.{passed}
 use Rattle.refusals.proofs.Condition.{nor-where}
 use Rattle.methylation.specs.declared.Annotation.{Annotation}
@@ -170,7 +170,7 @@ module _ (a b : StrandBytes) (listed : Bool) (run : List ℕ) (before : RecordAr
   same-made : n ≡ 0 → duplexRefused (strandOf (seen a)) (strandOf (seen b)) listed (length (readsOf run)) false before ≡ refused
   unfolding earlyFaults bytesFaults duplexFaults givenFaults refusal
   same-made z =
-      let whole : broken (seen a) (seen b) listed run ≡ false = sym same-broken ∙ passed 13 (earlyFaults (byteCounts a) (byteCounts b) torn) tt tt e z .0 in
+      let whole : broken (seen a) (seen b) listed run ≡ false = sym same-broken ∙ passed Broken (earlyFaults (byteCounts a) (byteCounts b) torn) e z .0 in
       rw whole
 
   -- A and B are what was read.
@@ -185,7 +185,7 @@ module _ (a b : StrandBytes) (listed : Bool) (run : List ℕ) (before : RecordAr
       → BytesAs (seen a) (seen b) listed run before (with-errors us made) r
   unfolding earlyFaults
   passed-on {A} {B} {made} {us} {r = r} z p q c d u =
-      let (few-a, few-b) = nor-where (longIn (byteCounts a)) true (longIn (byteCounts b)) (passed 7 (earlyFaults (byteCounts a) (byteCounts b) torn) tt tt e z .0) in
+      let (few-a, few-b) = nor-where (longIn (byteCounts a)) true (longIn (byteCounts b)) (passed TooLong (earlyFaults (byteCounts a) (byteCounts b) torn) e z .0) in
       let As = Made listed run (length (readsOf run)) before (with-errors us made) r in
       let at-a = subst (λ (s : Strand). As s B) (p ∙ all-read a few-a) (made-as A B listed run before made c d u) in
       let at-b = subst (λ (s : Strand). As (strandOf (read a)) s) (q ∙ all-read b (few-b refl)) at-a in

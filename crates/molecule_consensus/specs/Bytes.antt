@@ -8,7 +8,7 @@ use lib.Dec.{eqb}
 use lib.ListN.{length}
 use Rattle.lists.specs.Output.{answer}
 use Rattle.lists.specs.Part.{onlyIf}
-use Rattle.refusals.specs.Refusal.{Fault, _if_, refusal}
+use Rattle.refusals.specs.Refusal.{Fault, _if_, refusal, Broken}
 use Rattle.methylation.specs.Methylation.{isAnnotated}
 use Rattle.byte_numbers.specs.Bytes.{oddCount}
 use Rattle.molecule_fields.specs.Widths.{isRun}
@@ -38,14 +38,14 @@ broken a b listed run = misfit a || (misfit b || (listed && not (isRun run)))
 
 -- Row 13, then what refuses the library's call on the numbers and the reads of the run, of which no part leaves it.
 unfoldable pub bytesFaults : StrandBytes → StrandBytes → Bool → List ℕ → RecordArrays → List Fault
-bytesFaults a b listed run out = (13 if broken a b listed run) ∷ duplexFaults (strandOf a) (strandOf b) listed (length (readsOf run)) false out
+bytesFaults a b listed run out = (Broken if broken a b listed run) ∷ duplexFaults (strandOf a) (strandOf b) listed (length (readsOf run)) false out
 
 abbrev pub bytesRefused : StrandBytes → StrandBytes → Bool → List ℕ → RecordArrays → ℕ
 bytesRefused a b listed run out = refusal (bytesFaults a b listed run out)
 
 -- The rows that are tested over all that is given: what refuses a call whose outputs are long enough.
 unfoldable pub inputsRefused : StrandBytes → StrandBytes → Bool → List ℕ → ℕ
-inputsRefused a b listed run = refusal ((13 if broken a b listed run) ∷ strandFaults (strandOf a) (strandOf b) listed (length (readsOf run)) false)
+inputsRefused a b listed run = refusal ((Broken if broken a b listed run) ∷ strandFaults (strandOf a) (strandOf b) listed (length (readsOf run)) false)
 
 -- What the library's call writes.
 abbrev pub bytesRecord : StrandBytes → StrandBytes → Bool → List ℕ → RecordArrays

@@ -17,4 +17,4 @@ pub tested :
     → m ≡ refuseIf n (long-a || long-b) 7
     → m ≡ refusal (earlyFaults a b broken)
 unfolding earlyFaults
-tested a b broken ma mb la lb first second = in-order _ tt (rw (second, first, ma, mb, la, lb))
+tested a b broken ma mb la lb first second = in-order _ (rw (second, first, ma, mb, la, lb))

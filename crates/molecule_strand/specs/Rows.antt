@@ -3,7 +3,7 @@ use Prim.Native.Nat.{_/_, _%_}
 use mathlib.Core.Bool.{Bool, not, _&&_, _||_}
 use mathlib.Core.List.{List, [], _∷_}
 use lib.Dec.{eqb}
-use Rattle.refusals.specs.Refusal.{Fault, _if_}
+use Rattle.refusals.specs.Refusal.{Fault, _if_, Broken, TooLong}
 use Rattle.methylation.specs.Methylation.{isAnnotated}
 use Rattle.vanilla_caller.specs.declared.Lengths.{Lengths}
 use Rattle.byte_numbers.specs.Bytes.{oddCount}
@@ -34,6 +34,6 @@ longIn s = long (record { present = s .present; annotation = s .annotation; leng
 -- The rows in their order, where reads are a broken run or not.
 unfoldable pub earlyFaults : ByteCounts → ByteCounts → Bool → List Fault
 earlyFaults a b broken =
-    (13 if (misfitIn a || (misfitIn b || broken)))
-    ∷ (7 if (longIn a || longIn b))
+    (Broken if (misfitIn a || (misfitIn b || broken)))
+    ∷ (TooLong if (longIn a || longIn b))
     ∷ []

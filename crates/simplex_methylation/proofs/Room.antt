@@ -4,7 +4,7 @@ use mathlib.Core.Bool.{Bool, false}
 use mathlib.Core.List.{[], _∷_}
 use Prim.Native.Nat.{ℕ, _≤_}
 use borrow.Author.Tests.{ltb-false}
-use Rattle.refusals.specs.Refusal.{refusal}
+use Rattle.refusals.specs.Refusal.{refusal, TooLong, TooManyReads, PartOutside, OutputTooShort}
 use Rattle.refusals.proofs.Refusal.{passed}
 use Rattle.refusals.proofs.Condition.{not-too-short}
 use Rattle.simplex_methylation.specs.Simplex.{simplexFaults}
@@ -21,10 +21,10 @@ module _ (n reads : ℕ) (leaving : Bool) (marks unconverted converted : ℕ) wh
   room e z =
       let outs = marks ∷ unconverted ∷ converted ∷ [] in
       let faults = simplexFaults n reads leaving outs in
-      let wide = not-too-short n outs (passed 12 faults tt tt e z .0) in
+      let wide = not-too-short n outs (passed OutputTooShort faults e z .0) in
       record {
-        positions = ltb-false 1024 n (passed 7 faults tt tt e z .0);
-        few = ltb-false 1024 reads (passed 9 faults tt tt e z .0);
-        inside = passed 10 faults tt tt e z .0;
+        positions = ltb-false 1024 n (passed TooLong faults e z .0);
+        few = ltb-false 1024 reads (passed TooManyReads faults e z .0);
+        inside = passed PartOutside faults e z .0;
         outs = (wide .0, wide .1 .0, wide .1 .1 .0);
       }

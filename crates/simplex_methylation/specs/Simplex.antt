@@ -8,7 +8,7 @@ use lib.ListN.{length, getD, replicate}
 use Rattle.lists.specs.Count.{countOf}
 use Rattle.lists.specs.Output.{answer, put}
 use Rattle.lists.specs.Table.{tabulate}
-use Rattle.refusals.specs.Refusal.{Fault, _if_, tooLong, tooMany, tooShort, refusal}
+use Rattle.refusals.specs.Refusal.{Fault, _if_, tooLong, tooMany, tooShort, refusal, TooLong, TooManyReads, PartOutside, OutputTooShort}
 use Rattle.dna.specs.Dna.{upper}
 use Rattle.methylation.specs.Arrays.{EvidenceArrays, evidenceArrays, evidenceLengths, three, LeavesEvidence}
 use Rattle.methylation.specs.Methylation.{patternBases}
@@ -76,10 +76,10 @@ Below limit n soFar = (i : ℕ) → i < n → getD soFar i 0 < limit
 -- The length of the consensus, the number of reads, whether a read's part leaves its bytes, and the lengths of the outputs.
 unfoldable pub simplexFaults : ℕ → ℕ → Bool → List ℕ → List Fault
 simplexFaults n reads leaving outs =
-    (7 if tooLong (n ∷ []))
-    ∷ (9 if tooMany (reads ∷ []))
-    ∷ (10 if leaving)
-    ∷ (12 if tooShort n outs)
+    (TooLong if tooLong (n ∷ []))
+    ∷ (TooManyReads if tooMany (reads ∷ []))
+    ∷ (PartOutside if leaving)
+    ∷ (OutputTooShort if tooShort n outs)
     ∷ []
 
 -- The marks and counts of n positions.

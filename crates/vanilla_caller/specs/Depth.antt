@@ -3,13 +3,13 @@ use Prim.Native.Nat.{ℕ}
 use mathlib.Core.List.{List, [], _∷_}
 use lib.ListN.{length}
 use Rattle.lists.specs.Output.{answer}
-use Rattle.refusals.specs.Refusal.{Fault, _if_, tooLong, refusal}
+use Rattle.refusals.specs.Refusal.{Fault, _if_, tooLong, refusal, TooLong}
 use Rattle.numbers.specs.Numbers.{largest, smallest}
 use Rattle.vanilla_caller.specs.declared.Depth.{Depth}
 use Rattle.vanilla_caller.specs.declared.Depth.the-variants.{Refused, Of}
 
 unfoldable pub depthFaults : ℕ → List Fault
-depthFaults n = (7 if tooLong (n ∷ [])) ∷ []
+depthFaults n = (TooLong if tooLong (n ∷ [])) ∷ []
 
 abbrev pub depthRefused : List ℕ → ℕ
 depthRefused depths = refusal (depthFaults (length depths))

@@ -5,7 +5,7 @@ use Prim.Native.Nat.{ℕ, _≤_}
 use native.Mathlib.Omega.{arith}
 use borrow.Author.Tests.{ltb-false, eqb-true}
 use lib.Dec.{eqb}
-use Rattle.refusals.specs.Refusal.{refusal}
+use Rattle.refusals.specs.Refusal.{refusal, Ragged, BelowLength, OutputTooShort}
 use Rattle.refusals.proofs.Refusal.{passed}
 use Rattle.refusals.proofs.Condition.{Every, both-hold}
 use Rattle.methylation.specs.Arrays.{three}
@@ -51,9 +51,9 @@ module _ (annotation : Annotation) (s : Lengths) (n : ℕ) (out : Lengths) where
   room e z =
       let faults = paddedFaults annotation s n out in
       let kept = keeps annotation (s .bases) n in
-      let same = even (isAnnotated annotation) s (passed 8 faults tt tt e z .0) in
-      let fits = ltb-false n (s .bases) (passed 11 faults tt tt e z .0) in
-      let enough = roomy n kept out (passed 12 faults tt tt e z .0) in
+      let same = even (isAnnotated annotation) s (passed Ragged faults e z .0) in
+      let fits = ltb-false n (s .bases) (passed BelowLength faults e z .0) in
+      let enough = roomy n kept out (passed OutputTooShort faults e z .0) in
       let there = written (isAnnotated annotation) same in
       let lent = enough .evidence in
       record {

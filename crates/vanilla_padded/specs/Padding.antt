@@ -8,7 +8,7 @@ use lib.Dec.{eqb, ltb}
 use lib.ListN.{length, replicate}
 use Rattle.lists.specs.Output.{answer}
 use Rattle.lists.specs.Part.{onlyIf}
-use Rattle.refusals.specs.Refusal.{Fault, _if_, tooLong, refusal}
+use Rattle.refusals.specs.Refusal.{Fault, _if_, tooLong, refusal, TooLong, Ragged, BelowLength, OutputTooShort}
 use Rattle.dna.specs.Dna.{lowerN}
 use Rattle.phred.specs.Phred.{minPhred}
 use Rattle.methylation.specs.Arrays.{evidenceArrays}
@@ -62,10 +62,10 @@ paddedArrays annotation s p =
 -- The strand's annotation and the lengths of its arrays, the length to pad to, and the lengths of the outputs.
 unfoldable pub paddedFaults : Annotation → Lengths → ℕ → Lengths → List Fault
 paddedFaults annotation s n out =
-    (7 if (tooLong (n ∷ []) || strandTooLong (isAnnotated annotation) s))
-    ∷ (8 if strandRagged (isAnnotated annotation) s)
-    ∷ (11 if ltb n (s .bases))
-    ∷ (12 if outputsTooShort n (keeps annotation (s .bases) n) out)
+    (TooLong if (tooLong (n ∷ []) || strandTooLong (isAnnotated annotation) s))
+    ∷ (Ragged if strandRagged (isAnnotated annotation) s)
+    ∷ (BelowLength if ltb n (s .bases))
+    ∷ (OutputTooShort if outputsTooShort n (keeps annotation (s .bases) n) out)
     ∷ []
 
 abbrev pub paddedRefused : Annotation → Arrays → Padding → Arrays → ℕ

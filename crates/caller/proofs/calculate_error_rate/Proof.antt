@@ -5,6 +5,7 @@ use Prim.Native.Nat.{ℕ, _≤_}
 use denote.Ref.{now}
 use lib.ListN.{length}
 use Rattle.lists.proofs.Output.{answer-refused, answer-passed}
+use Rattle.refusals.specs.Refusal.{TooLong}
 use Rattle.refusals.proofs.Condition.{Every, not-too-long}
 use Rattle.refusals.proofs.Refusal.{passed}
 use Rattle.caller.specs.Rate.{rateFaults, errorRate}
@@ -20,7 +21,7 @@ lengths c =
 
 few : (c : tie.Else1) → Every (λ n. n ≤ 1024) (lengths c)
 unfolding rateFaults
-few c = not-too-long (lengths c) (passed 7 _ tt tt (c .before .rate-refusal .ensures) (c .if1 .left) .0)
+few c = not-too-long (lengths c) (passed TooLong _ (c .before .rate-refusal .ensures) (c .if1 .left) .0)
 
 returns : tie.Need-returns
 unfolding errorRate

@@ -6,7 +6,7 @@ use Rattle.caller.proofs.rate_refusal.Tie as tie
 
 returns : tie.Need-returns
 unfolding rateFaults
-returns c = in-order _ tt (cc)
+returns c = in-order _ (cc)
 
 pub rate-refusal-spec : {M : Type 1} → statement M
 rate-refusal-spec = tie.close (tie.spec (λ c κs. tt) (λ c κs. tt) returns)

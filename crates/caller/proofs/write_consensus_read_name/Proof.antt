@@ -8,6 +8,7 @@ use borrow.Author.Tests.{ltb-false}
 use denote.Ref.{now}
 use lib.ListN.{length}
 use Rattle.lists.proofs.Output.{answer-refused, answer-passed, after-refused, after-passed}
+use Rattle.refusals.specs.Refusal.{OutputTooShort}
 use Rattle.refusals.proofs.Refusal.{in-order, passed}
 use Rattle.caller.specs.Name.{nameTooShort, nameFaults, nameRefused}
 use Rattle.caller.specs.declared.ReadName.the-variants.{Refused, Written}
@@ -27,7 +28,7 @@ out c = now (c .before .before .before .before .before .args .out)
 
 number : (c : tie.After-refuse-if) → c .refuse-if .result ≡ nameRefused (prefix c) (umi c) (out c)
 unfolding nameFaults
-number c = in-order _ tt (cc)
+number c = in-order _ (cc)
 
 returns : tie.Need-returns
 returns c = (answer-refused Refused _ (number (c .before)) (c .if1 .taken), after-refused _ _ (number (c .before)) (c .if1 .taken))
@@ -36,7 +37,7 @@ write-name-requires : tie.Need-write-name-requires
 unfolding nameFaults nameTooShort
 write-name-requires c κs =
     let tested = c .before .before in
-    let fits = passed 12 _ tt tt (number tested) (c .before .if1 .left) .0 in
+    let fits = passed OutputTooShort _ (number tested) (c .before .if1 .left) .0 in
     omega (arith, name-length (prefix tested) (umi tested), ltb-false (length (out tested)) (length (prefix tested) + 1 + length (umi tested)) fits)
 
 returns-2 : tie.Need-returns-2

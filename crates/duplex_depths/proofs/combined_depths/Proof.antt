@@ -1,6 +1,7 @@
 -- `duplex_depths::combined_depths` meets its contract: refused by its number, or written where the output has room. Assumes nothing.
 use borrow.Author.Tests.{ltb-false}
 use Rattle.lists.proofs.Told.{told-refused, told-written}
+use Rattle.refusals.specs.Refusal.{OutputTooShort}
 use Rattle.refusals.proofs.Refusal.{passed}
 use Rattle.duplex_depths.specs.Depths.{combinedFaults}
 use Rattle.duplex_depths.specs.declared.CombinedDepths.the-variants.{Refused}
@@ -13,7 +14,7 @@ returns c = told-refused Refused _ _ _ (c .before .combined-refusal .ensures) (c
 write-combined-requires : tie.Need-write-combined-requires
 unfolding combinedFaults
 write-combined-requires c κs =
-    ltb-false _ _ (passed 12 _ tt tt (c .before .before .combined-refusal .ensures) (c .before .if1 .left) .0)
+    ltb-false _ _ (passed OutputTooShort _ (c .before .before .combined-refusal .ensures) (c .before .if1 .left) .0)
 
 returns-2 : tie.Need-returns-2
 returns-2 c =

@@ -13,7 +13,7 @@ number :
     → let a = c .before .before .before .before .args in
     c .refuse-if .result ≡ rangeRefused (a .positions) (now (a .ab)) (now (a .ba))
 unfolding rangeFaults
-number c = in-order _ tt (c .refuse-if .ensures ∙ rw (c .before .record-too-long .ensures))
+number c = in-order _ (c .refuse-if .ensures ∙ rw (c .before .record-too-long .ensures))
 
 returns : tie.Need-returns
 unfolding depthRange

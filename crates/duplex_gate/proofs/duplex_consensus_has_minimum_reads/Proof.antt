@@ -6,7 +6,7 @@ use Prim.Native.Nat.{ℕ}
 use borrow.Author.Needs.{needs}
 use denote.Ref.{now}
 use lib.ListN.{length}
-use Rattle.refusals.specs.Refusal.{Fault, _if_, tooLong, refusal}
+use Rattle.refusals.specs.Refusal.{Fault, _if_, tooLong, refusal, TooLong}
 use Rattle.refusals.proofs.Refusal.{in-order}
 use Rattle.duplex_min_reads.specs.MinReads.{faults}
 use Rattle.duplex_reads.specs.Reads.{gateAnswer}
@@ -22,10 +22,10 @@ ts c = now (c .before .before .before .before .args .min-reads)
 abbrev own : tie.After-refuse-if → List Fault
 own c =
     let x = c .before .before .before .before .args in
-    (7 if tooLong (x .positions ∷ length (now (x .ab-depths)) ∷ length (now (x .ba-depths)) ∷ [])) ∷ []
+    (TooLong if tooLong (x .positions ∷ length (now (x .ab-depths)) ∷ length (now (x .ba-depths)) ∷ [])) ∷ []
 
 number : (c : tie.After-refuse-if) → c .refuse-if .result ≡ refusal (own c)
-number c = in-order _ tt (c .refuse-if .ensures)
+number c = in-order _ (c .refuse-if .ensures)
 
 returns : tie.Need-returns
 unfolding consensusGate faults

@@ -6,7 +6,7 @@ use Rattle.duplex_kind.proofs.given_refusal.Tie as tie
 
 returns : tie.Need-returns
 unfolding givenFaults
-returns c = in-order _ tt (cc)
+returns c = in-order _ (cc)
 
 pub given-refusal-spec : {M : Type 1} → statement M
 given-refusal-spec =

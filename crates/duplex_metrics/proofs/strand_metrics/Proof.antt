@@ -4,6 +4,7 @@ use mathlib.Core.List.{[], _∷_}
 use lib.ListN.{length}
 use denote.Ref.{now}
 use Rattle.lists.proofs.Output.{answer-refused, answer-passed}
+use Rattle.refusals.specs.Refusal.{TooLong}
 use Rattle.refusals.proofs.Condition.{not-too-long}
 use Rattle.refusals.proofs.Refusal.{passed}
 use Rattle.caller.specs.Rate.{rateFaults}
@@ -20,7 +21,7 @@ strand-figures-requires : tie.Need-strand-figures-requires
 unfolding rateFaults
 strand-figures-requires c κs =
     let a = c .before .before .before .before .args in
-    let short = not-too-long (length (now (a .depths)) ∷ length (now (a .errors)) ∷ []) (passed 7 _ tt tt (c .before .rate-refusal .ensures) (c .if1 .left) .0) in
+    let short = not-too-long (length (now (a .depths)) ∷ length (now (a .errors)) ∷ []) (passed TooLong _ (c .before .rate-refusal .ensures) (c .if1 .left) .0) in
     (short .0, short .1 .0)
 
 returns-2 : tie.Need-returns-2

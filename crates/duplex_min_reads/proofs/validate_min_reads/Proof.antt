@@ -19,7 +19,7 @@ number : (c : tie.After-refuse-if4) → c .refuse-if4 .result ≡ refused (thres
 unfolding faults
 number c =
     let yx = c .before .before .before .before in
-    in-order _ tt
+    in-order _
     (rw (c .refuse-if4 .ensures, c .before .refuse-if3 .ensures, c .before .before .refuse-if2 .ensures, c .before .before .before .refuse-if .ensures, yx .at-u323 .ensures, yx .before .at-u322 .ensures, yx .before .before .at-u32 .ensures))
 
 returns : tie.Need-returns

@@ -8,7 +8,7 @@ use borrow.Author.Needs.{needs}
 use borrow.Author.Tests.{ltb-false}
 use denote.Ref.{now}
 use Rattle.lists.proofs.Output.{answer-refused, answer-passed, after-refused, after-passed}
-use Rattle.refusals.specs.Refusal.{refusal}
+use Rattle.refusals.specs.Refusal.{refusal, TooManyReads, OutputTooShort}
 use Rattle.refusals.proofs.Refusal.{passed}
 use Rattle.refusals.proofs.Condition.{not-too-short}
 use Rattle.duplex_partition.specs.Partition.{partitionFaults, partitionRefused}
@@ -34,8 +34,8 @@ returns c =
 room : (n : ℕ) (leaving : Bool) (a b found : ℕ) {number : ℕ} → number ≡ refusal (partitionFaults n leaving a b found) → number ≡ 0 → (n ≤ 1024) × ((n ≤ a) × (n ≤ b))
 unfolding partitionFaults
 room n leaving a b found e zero =
-    let short = not-too-short n (a ∷ b ∷ []) (passed 12 _ tt tt e zero .0) in
-    (ltb-false _ _ (passed 9 _ tt tt e zero .0), (short .0, short .1 .0))
+    let short = not-too-short n (a ∷ b ∷ []) (passed OutputTooShort _ e zero .0) in
+    (ltb-false _ _ (passed TooManyReads _ e zero .0), (short .0, short .1 .0))
 
 write-partition-requires : tie.Need-write-partition-requires
 write-partition-requires c κs = room _ _ _ _ _ (c .before .before .before .partition-refusal .ensures) (c .before .before .if1 .left)

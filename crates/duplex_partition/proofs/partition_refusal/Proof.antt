@@ -7,7 +7,7 @@ use Rattle.duplex_partition.proofs.partition_refusal.Tie as tie
 returns : tie.Need-returns
 unfolding partitionFaults
 returns c =
-    in-order _ tt
+    in-order _
     (rw (c .refuse-if5 .ensures, c .before .refuse-if4 .ensures, c .before .before .refuse-if3 .ensures, c .before .before .before .refuse-if2 .ensures, c .before .before .before .before .refuse-if .ensures))
 
 pub partition-refusal-spec : {M : Type 1} → statement M

@@ -16,7 +16,7 @@ use Rattle.duplex_reads.proofs.are_all_same_strand.Tie as tie
 
 number : (c : tie.After-refuse-if) → c .refuse-if .result ≡ refusal (strandFaults (length (now (c .before .before .args .reads))))
 unfolding strandFaults
-number c = in-order _ tt (c .refuse-if .ensures)
+number c = in-order _ (c .refuse-if .ensures)
 
 -- The list that was passed, where all is computed.
 abbrev reads : tie.After-all-reverse-as → List ℕ

@@ -5,7 +5,7 @@ use mathlib.Core.List.{List, [], _∷_}
 use Prim.Native.Nat.{ℕ, _≤_}
 use denote.Ref.{now}
 use lib.ListN.{length}
-use Rattle.refusals.specs.Refusal.{Fault, _if_, tooMany, refusal}
+use Rattle.refusals.specs.Refusal.{Fault, _if_, tooMany, refusal, TooManyReads}
 use Rattle.refusals.proofs.Condition.{Every, not-too-many}
 use Rattle.refusals.proofs.Refusal.{in-order, passed}
 use Rattle.duplex_min_reads.specs.MinReads.{faults}
@@ -22,13 +22,13 @@ abbrev ts : tie.After-refuse-if → List ℕ
 ts c = now (c .before .before .before .before .args .min-reads)
 
 abbrev own : tie.After-refuse-if → List Fault
-own c = (9 if tooMany (sizes c)) ∷ []
+own c = (TooManyReads if tooMany (sizes c)) ∷ []
 
 number : (c : tie.After-refuse-if) → c .refuse-if .result ≡ refusal (own c)
-number c = in-order _ tt (c .refuse-if .ensures)
+number c = in-order _ (c .refuse-if .ensures)
 
 few : (c : tie.Else1) → Every (λ n. n ≤ 1024) (sizes (c .before))
-few c = not-too-many (sizes (c .before)) (passed 9 _ tt tt (number (c .before)) (c .if1 .left) .0)
+few c = not-too-many (sizes (c .before)) (passed TooManyReads _ (number (c .before)) (c .if1 .left) .0)
 
 returns : tie.Need-returns
 unfolding readGate faults

@@ -6,7 +6,7 @@ use Rattle.duplex_single.proofs.single_refusal.Tie as tie
 
 returns : tie.Need-returns
 unfolding singleFaults
-returns c = in-order _ tt (cc)
+returns c = in-order _ (cc)
 
 pub single-refusal-spec : {M : Type 1} → statement M
 single-refusal-spec =

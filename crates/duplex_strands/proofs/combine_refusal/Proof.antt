@@ -12,7 +12,7 @@ returns c =
     let ragged = common .before in
     let long = ragged .before .before .before in
     let annotated = long .before .before .before in
-    in-order _ tt
+    in-order _
     (rw (
       ← annotated .before .is-annotated .ensures,
       ← annotated .is-annotated2 .ensures,

@@ -10,7 +10,7 @@ unfolding givenFaults
 returns c =
     let uneven = c .before .before in
     let long = uneven .before .before in
-    in-order _ tt (c .refuse-if2 .ensures ∙ rw (uneven .before .refuse-if .ensures, long .before .is-long .ensures, long .is-long2 .ensures, uneven .is-uneven .ensures, c .before .is-uneven2 .ensures))
+    in-order _ (c .refuse-if2 .ensures ∙ rw (uneven .before .refuse-if .ensures, long .before .is-long .ensures, long .is-long2 .ensures, uneven .is-uneven .ensures, c .before .is-uneven2 .ensures))
 
 pub given-refusal-spec : {M : Type 1} → statement M
 given-refusal-spec =

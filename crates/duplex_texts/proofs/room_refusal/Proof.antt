@@ -6,7 +6,7 @@ use Rattle.duplex_texts.proofs.room_refusal.Tie as tie
 
 returns : tie.Need-returns
 unfolding textsTooShort
-returns c = in-order _ tt (c .refuse-if .ensures)
+returns c = in-order _ (c .refuse-if .ensures)
 
 pub room-refusal-spec : {M : Type 1} → statement M
 room-refusal-spec =

@@ -9,7 +9,7 @@ returns : tie.Need-returns
 unfolding gateFaults
 returns c =
     let long = c .before .before in
-    in-order _ tt (c .refuse-if2 .ensures ∙ rw (long .refuse-if .ensures, long .before .evidence-too-long .ensures, c .before .evidence-ragged .ensures))
+    in-order _ (c .refuse-if2 .ensures ∙ rw (long .refuse-if .ensures, long .before .evidence-too-long .ensures, c .before .evidence-ragged .ensures))
 
 pub gate-refusal-spec : {M : Type 1} → statement M
 gate-refusal-spec = tie.close (tie.spec (λ c κs. tt) (λ c κs. tt) (λ c κs. tt) (λ c κs. tt) returns)

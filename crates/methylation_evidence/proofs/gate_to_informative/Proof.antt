@@ -1,5 +1,6 @@
 -- `methylation_evidence::gate_to_informative` meets its contract: refused by its number, or gated. Assumes nothing.
 use Rattle.lists.proofs.Output.{answer-refused, answer-passed}
+use Rattle.refusals.specs.Refusal.{Ragged}
 use Rattle.refusals.proofs.Refusal.{passed}
 use Rattle.methylation_evidence.specs.Gate.{gateFaults}
 use Rattle.methylation_evidence.specs.declared.Positions.the-variants.{Refused}
@@ -16,7 +17,7 @@ gate-requires : tie.Need-gate-requires
 unfolding gateFaults
 gate-requires c κs =
     let at-test = c .before .before .before in
-    equal-lengths _ (passed 8 _ tt tt (at-test .before .gate-refusal .ensures) (at-test .if1 .left) .0)
+    equal-lengths _ (passed Ragged _ (at-test .before .gate-refusal .ensures) (at-test .if1 .left) .0)
 
 returns-2 : tie.Need-returns-2
 returns-2 c =

@@ -1,6 +1,7 @@
 -- `methylation_evidence::summed_counts` meets its contract: refused by its number, or written where the output has room. Assumes nothing.
 use borrow.Author.Tests.{ltb-false}
 use Rattle.lists.proofs.Told.{told-refused, told-written}
+use Rattle.refusals.specs.Refusal.{OutputTooShort}
 use Rattle.refusals.proofs.Refusal.{passed}
 use Rattle.methylation_evidence.specs.Counts.{summedFaults}
 use Rattle.methylation_evidence.specs.declared.Positions.the-variants.{Refused}
@@ -13,7 +14,7 @@ returns c = told-refused Refused _ _ _ (c .before .summed-refusal .ensures) (c .
 write-summed-requires : tie.Need-write-summed-requires
 unfolding summedFaults
 write-summed-requires c κs =
-    ltb-false _ _ (passed 12 _ tt tt (c .before .before .summed-refusal .ensures) (c .before .if1 .left) .0)
+    ltb-false _ _ (passed OutputTooShort _ (c .before .before .summed-refusal .ensures) (c .before .if1 .left) .0)
 
 returns-2 : tie.Need-returns-2
 returns-2 c =

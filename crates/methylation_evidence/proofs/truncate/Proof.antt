@@ -3,6 +3,7 @@ use mathlib.Core.Path.{ap, _∙_}
 use native.Mathlib.Omega.{arith}
 use denote.Ref.{now}
 use Rattle.lists.proofs.Output.{answer-refused, answer-passed}
+use Rattle.refusals.specs.Refusal.{Ragged, OutputTooShort}
 use Rattle.refusals.proofs.Refusal.{passed}
 use Rattle.methylation.specs.Arrays.{evidenceArrays}
 use Rattle.methylation_evidence.specs.Truncate.{truncateFaults}
@@ -23,8 +24,8 @@ write-truncated-requires c κs =
     let counted = c .before .before .before in
     let at-test = counted .before in
     let number = at-test .before .truncate-refusal .ensures in
-    let same = equal-lengths _ (passed 8 _ tt tt number (at-test .if1 .left) .0) in
-    let room = enough-room _ _ (passed 12 _ tt tt number (at-test .if1 .left) .0) in
+    let same = equal-lengths _ (passed Ragged _ number (at-test .if1 .left) .0) in
+    let room = enough-room _ _ (passed OutputTooShort _ number (at-test .if1 .left) .0) in
     rw (counted .smaller .ensures) ((omega arith, room .0), ((omega arith, room .1), (omega arith, room .2)))
 
 returns-2 : tie.Need-returns-2
@@ -35,7 +36,7 @@ returns-2 c =
     let at-test = counted .before in
     let number = at-test .before .truncate-refusal .ensures in
     let zero = at-test .if1 .left in
-    let same = equal-lengths _ (passed 8 _ tt tt number zero .0) in
+    let same = equal-lengths _ (passed Ragged _ number zero .0) in
     let a = at-test .before .before .before .before .before .before .before .before .args in
     let whole = same-positions (a .len) (evidenceArrays (now (a .marks)) (now (a .unconverted)) (now (a .converted))) same (counted .smaller .ensures) in
     record {

@@ -10,7 +10,7 @@ unfolding truncateFaults
 returns c =
     let ragged = c .before .before in
     let long = ragged .before .before in
-    in-order _ tt (c .refuse-if3 .ensures ∙ rw (ragged .refuse-if2 .ensures, long .refuse-if .ensures, long .before .evidence-too-long .ensures, ragged .before .evidence-ragged .ensures, c .before .evidence-too-short .ensures, long .before .before .smaller .ensures))
+    in-order _ (c .refuse-if3 .ensures ∙ rw (ragged .refuse-if2 .ensures, long .refuse-if .ensures, long .before .evidence-too-long .ensures, ragged .before .evidence-ragged .ensures, c .before .evidence-too-short .ensures, long .before .before .smaller .ensures))
 
 pub truncate-refusal-spec : {M : Type 1} → statement M
 truncate-refusal-spec = tie.close (tie.spec (λ c κs. tt) (λ c κs. tt) (λ c κs. tt) (λ c κs. tt) (λ c κs. tt) (λ c κs. tt) (λ c κs. tt) returns)

@@ -5,6 +5,7 @@ use denote.Ref.{now}
 use lib.ListN.{length}
 use borrow.Author.Tests.{eqb-true, not-false}
 use Rattle.lists.proofs.Told.{told-refused, told-written}
+use Rattle.refusals.specs.Refusal.{Ragged}
 use Rattle.refusals.proofs.Refusal.{passed}
 use Rattle.methylation_evidence.specs.declared.Positions.the-variants.{Refused}
 use Rattle.methylation_restore.specs.Restore.{restoreFaults}
@@ -17,7 +18,7 @@ returns c = told-refused Refused _ _ _ (c .before .restore-refusal .ensures) (c 
 -- Not refused, there are as many marks as bases.
 as-many : (c : tie.Else1) → length (now (c .before .before .before .before .args .marks)) ≡ length (now (c .before .before .before .before .args .consensus-bases))
 unfolding restoreFaults
-as-many c = eqb-true _ _ (not-false _ (passed 8 _ tt tt (c .before .restore-refusal .ensures) (c .if1 .left) .0))
+as-many c = eqb-true _ _ (not-false _ (passed Ragged _ (c .before .restore-refusal .ensures) (c .if1 .left) .0))
 
 restore-requires : tie.Need-restore-requires
 restore-requires c κs = omega (arith, as-many (c .before .before))

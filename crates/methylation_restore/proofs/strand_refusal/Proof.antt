@@ -7,7 +7,7 @@ use Rattle.methylation_restore.proofs.strand_refusal.Tie as tie
 
 returns : tie.Need-returns
 unfolding strandFaults
-returns c = in-order _ tt (c .refuse-if3 .ensures ∙ rw (c .before .refuse-if2 .ensures, c .before .before .refuse-if .ensures, c .before .before .before .is-annotated .ensures))
+returns c = in-order _ (c .refuse-if3 .ensures ∙ rw (c .before .refuse-if2 .ensures, c .before .before .refuse-if .ensures, c .before .before .before .is-annotated .ensures))
 
 pub strand-refusal-spec : {M : Type 1} → statement M
 strand-refusal-spec = tie.close (tie.spec (λ c κs. tt) (λ c κs. tt) (λ c κs. tt) (λ c κs. tt) returns)

@@ -4,7 +4,7 @@ use Rattle.mm_ml.proofs.room_refusal.Statement.{statement}
 use Rattle.mm_ml.proofs.room_refusal.Tie as tie
 
 returns : tie.Need-returns
-returns c = in-order _ tt (c .refuse-if .ensures)
+returns c = in-order _ (c .refuse-if .ensures)
 
 pub room-refusal-spec : {M : Type 1} → statement M
 room-refusal-spec = tie.close (tie.spec (λ c κs. tt) returns)

@@ -10,7 +10,7 @@ use Rattle.vanilla_caller.proofs.min_depth.Tie as tie
 
 number : (c : tie.After-refuse-if) → c .refuse-if .result ≡ depthRefused (now (c .before .before .args .depths))
 unfolding depthFaults
-number c = in-order _ tt (cc)
+number c = in-order _ (cc)
 
 returns : tie.Need-returns
 unfolding minDepth

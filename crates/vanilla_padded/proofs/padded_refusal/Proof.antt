@@ -6,7 +6,7 @@ use Rattle.vanilla_padded.proofs.padded_refusal.Tie as tie
 
 returns : tie.Need-returns
 unfolding paddedFaults
-returns c = in-order _ tt (cc)
+returns c = in-order _ (cc)
 
 pub padded-refusal-spec : {M : Type 1} → statement M
 padded-refusal-spec =
