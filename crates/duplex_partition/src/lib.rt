@@ -156,8 +156,8 @@ fn base_mi(reads: &[MiPart]) -> BaseMi
         return BaseMi::Absent;
     }
     let first = reads[0];
-    let length = first[2];
-    if length < 2 {
+    let size = first[2];
+    if size < 2 {
         return BaseMi::Part {
             offset: first[1],
             length: 0,
@@ -165,7 +165,7 @@ fn base_mi(reads: &[MiPart]) -> BaseMi
     }
     BaseMi::Part {
         offset: first[1],
-        length: length - 2,
+        length: size - 2,
     }
 }
 

@@ -212,8 +212,8 @@ pub fn padded(
         depths_out,
         errors_out,
     );
-    let kept = is_annotated(annotation) & (bases.len() == new_length);
-    let places = evidence_places(kept, new_length);
+    let evidence = is_annotated(annotation) & (bases.len() == new_length);
+    let places = evidence_places(evidence, new_length);
     write_evidence(
         marks,
         unconverted,
