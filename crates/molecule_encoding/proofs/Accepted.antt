@@ -13,7 +13,7 @@ use Rattle.lists.specs.Every.{every}
 use Rattle.refusals.proofs.Condition.{both-hold}
 use Rattle.fields.specs.Encoding.{Field, wholeFields, cutField}
 use Rattle.molecule_fields.specs.Widths.{implies, wellFormed}
-use Rattle.molecule_encoding.specs.Format.{ascending, has, wholeStrand, annotatedStrand, announced, valid, accepted, spanOf, strandOf, readsAfter, absent, span, molecule, decoded, fieldsFit, strandFits, complete}
+use Rattle.molecule_encoding.specs.Format.{ascending, has, wholeStrand, annotatedStrand, announced, valid, mostBytes, accepted, spanOf, strandOf, readsAfter, absent, span, molecule, decoded, fieldsFit, strandFits, complete}
 use Rattle.molecule_encoding.specs.declared.Span.{Span}
 use Rattle.molecule_encoding.specs.declared.Decoded.the-variants.{Refused, Of}
 use Rattle.molecule_encoding.proofs.Spans.{span-present}
@@ -42,26 +42,26 @@ module _ (bytes : List ℕ) where
   abbrev pub complete-fields : Bool
   complete-fields = complete (molecule (length bytes) fs) (spanOf 0x30 fs .present)
 
-  pub in-parts : accepted bytes ≡ (leb (length bytes) 65536 && (fieldsFit 0 bytes && complete-fields))
+  pub in-parts : accepted bytes ≡ (leb (length bytes) mostBytes && (fieldsFit 0 bytes && complete-fields))
   unfolding accepted valid fieldsFit announced
   in-parts =
       let rest = (wholeStrand 0x10 fs && annotatedStrand 0x10 fs) && ((wholeStrand 0x20 fs && annotatedStrand 0x20 fs) && implies (has 0x30 fs) (has 0x2f fs)) in
       let together : complete-fields ≡ rest = unfold complete molecule in simp (strand-is, reads-present, span-present) in
-      rw together (ap (λ (b : Bool). leb (length bytes) 65536 && b) (grouped (not (cutField bytes)) (ascending fs) (every wellFormed fs) rest))
+      rw together (ap (λ (b : Bool). leb (length bytes) mostBytes && b) (grouped (not (cutField bytes)) (ascending fs) (every wellFormed fs) rest))
 
-  pub too-big : 65536 < length bytes → Refused 13 ≡ decoded bytes
+  pub too-big : mostBytes < length bytes → Refused 13 ≡ decoded bytes
   unfolding decoded
   too-big h = rw (in-parts, lt-leb _ _ h)
 
-  pub unfit : length bytes ≤ 65536 → fieldsFit 0 bytes ≡ false → Refused 13 ≡ decoded bytes
+  pub unfit : length bytes ≤ mostBytes → fieldsFit 0 bytes ≡ false → Refused 13 ≡ decoded bytes
   unfolding decoded
   unfit h e = rw (in-parts, le-leb _ _ h, e)
 
-  pub incomplete : length bytes ≤ 65536 → fieldsFit 0 bytes ≡ true → complete-fields ≡ false → Refused 13 ≡ decoded bytes
+  pub incomplete : length bytes ≤ mostBytes → fieldsFit 0 bytes ≡ true → complete-fields ≡ false → Refused 13 ≡ decoded bytes
   unfolding decoded
   incomplete h e i = rw (in-parts, le-leb _ _ h, e, i)
 
-  pub completed : length bytes ≤ 65536 → fieldsFit 0 bytes ≡ true → complete-fields ≡ true → Of (molecule (length bytes) fs) ≡ decoded bytes
+  pub completed : length bytes ≤ mostBytes → fieldsFit 0 bytes ≡ true → complete-fields ≡ true → Of (molecule (length bytes) fs) ≡ decoded bytes
   unfolding decoded
   completed h e i = rw (in-parts, le-leb _ _ h, e, i)
 

@@ -1,7 +1,6 @@
--- What the reader promises, in the format's words.
+-- What the reader promises, in the format's words: proofs of specs/Claims.antt.
+--     accepts, only, only-13     of `Accepts`, `Only` and `Only13`
 --     span-value     the place of a tag's value holds the field's value
---     accepts, only     the bytes that the format allows are accepted, with the molecule that it says; and no others are
---     only-13        every refusal is 13
 --     value-fits     the value of a tag that is there is of the tag's widths, an annotation's pattern and marks 0 or 1
 -- Assumes nothing.
 use mathlib.Core.Path.{_≡_, refl, sym, ap, _∙_}
@@ -15,17 +14,18 @@ use lib.ListN.{length, drop}
 use Rattle.lists.specs.Every.{every}
 use Rattle.lists.specs.Part.{leaves, part}
 use Rattle.refusals.proofs.Condition.{both-hold}
-use Rattle.fields.specs.Encoding.{Field, field, IsBytes, Fields, fields, fieldsOf, wholeFields, cutField, fieldAt}
+use Rattle.fields.specs.Encoding.{Field, field, Fields, fields, fieldsOf, wholeFields, cutField, fieldAt}
 use Rattle.fields.specs.declared.FieldAt.{FieldAt}
 use Rattle.fields.proofs.Fields.{read-back, written}
 use Rattle.fields.proofs.Walk.{BeginsAt, along}
 use Rattle.molecule_fields.specs.Widths.{wellFormed}
-use Rattle.molecule_encoding.specs.Format.{has, valid, accepted, absent, span, spanFrom, spanOf, molecule, decoded, EncodesMolecule, valueOf, valueAt}
+use Rattle.molecule_encoding.specs.Format.{has, valid, mostBytes, accepted, absent, span, spanFrom, spanOf, molecule, decoded, valueOf, valueAt}
+use Rattle.molecule_encoding.specs.Claims.{Accepts, Only, Only13}
 use Rattle.molecule_encoding.specs.declared.Molecule.{Molecule}
 use Rattle.molecule_encoding.specs.declared.Decoded.the-variants.{Refused, Of}
 use Rattle.molecule_encoding.proofs.Spans.{span-opened}
 
-absent-value : (bytes : List ℕ) → valueAt bytes absent ≡ []
+pub absent-value : (bytes : List ℕ) → valueAt bytes absent ≡ []
 unfolding part leaves
 absent-value bytes = rw (le-ltb (length bytes) (0 + 0) (omega arith))
 
@@ -57,7 +57,7 @@ module _ (bytes : List ℕ) (tag : ℕ) where
   pub span-value : valueAt bytes (spanOf tag (wholeFields bytes)) ≡ valueOf tag (wholeFields bytes)
   span-value = along bytes Holds holds-none holds-whole 0
 
-pub accepts : (bytes : List ℕ) (fs : List Field) → EncodesMolecule bytes fs → decoded bytes ≡ Of (molecule (length bytes) fs)
+pub accepts : Accepts
 unfolding decoded accepted
 accepts bytes fs x =
     let are : fieldsOf bytes ≡ fields fs false = rw (x .encodes .bytes-are) (read-back fs (x .encodes .short)) in
@@ -71,15 +71,11 @@ accepted-molecule false m n e =
     let no : _≡_ {A = ℕ} 0 1 = cc in
     absurd (omega arith)
 
-pub only :
-    (bytes : List ℕ) (m : Molecule)
-    → IsBytes bytes
-    → decoded bytes ≡ Of m
-    → EncodesMolecule bytes (wholeFields bytes) × (m ≡ molecule (length bytes) (wholeFields bytes))
+pub only : Only
 unfolding decoded accepted
 only bytes m small e =
     let (a, is) = accepted-molecule (accepted bytes) (molecule (length bytes) (wholeFields bytes)) m e in
-    let (size, others) = both-hold (leb (length bytes) 65536) (not (cutField bytes) && valid (wholeFields bytes)) a in
+    let (size, others) = both-hold (leb (length bytes) mostBytes) (not (cutField bytes) && valid (wholeFields bytes)) a in
     let (uncut, is-valid) = both-hold (not (cutField bytes)) (valid (wholeFields bytes)) others in
     (record { encodes = written bytes small (not-true (cutField bytes) uncut); small = leb-true _ _ size; is-valid = is-valid }, is)
 
@@ -89,7 +85,7 @@ refused-number true m n e =
     absurd (omega arith)
 refused-number false m n e = cc
 
-pub only-13 : (bytes : List ℕ) (n : ℕ) → decoded bytes ≡ Refused n → n ≡ 13
+pub only-13 : Only13
 unfolding decoded
 only-13 bytes n e = refused-number (accepted bytes) (molecule (length bytes) (wholeFields bytes)) n e
 

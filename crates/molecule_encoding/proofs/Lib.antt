@@ -2,5 +2,5 @@ pub mod Order
 pub mod Spans
 pub mod Accepted
 pub mod Claims
-pub mod AfterMarker
+pub mod Parts
 pub mod Examples

@@ -1,5 +1,6 @@
 -- Laws of where the value of a tag is.
 --     find-none, find-here, find-past, find-next     by what begins at a place
+--     past             no field is below a tag that all come after
 --     span-present     a tag's value has a place exactly where a field has the tag
 -- Assumes nothing.
 use mathlib.Core.Path.{_≡_, refl, sym, ap, _∙_}
@@ -18,7 +19,7 @@ use Rattle.molecule_encoding.specs.Format.{follows, ascendAfter, ascendi
 use Rattle.molecule_encoding.proofs.Order.{not-below, still-ascending}
 
 -- Where fields ascend after a tag, none has one below it.
-past : (last tag at : ℕ) (fs : List Field) → tag < last → ascendAfter last fs ≡ true → spanFrom at tag fs ≡ absent
+pub past : (last tag at : ℕ) (fs : List Field) → tag < last → ascendAfter last fs ≡ true → spanFrom at tag fs ≡ absent
 unfolding ascendAfter spanFrom
 past last tag at [] less e = refl
 past last tag at (f ∷ fs) less e =

@@ -1,14 +1,13 @@
 -- The encoding of a molecule, the tray of document 01: which fields it has together and in which order, and where the parts of the
 -- molecule are in its bytes. A field by itself is in molecule_fields.
-use mathlib.Core.Path.{_≡_}
-use Prim.Native.Nat.{ℕ, _+_, _-_, _≤_}
+use Prim.Native.Nat.{ℕ, _+_, _-_}
 use mathlib.Core.Bool.{Bool, true, false, cond, not, _&&_, _||_}
 use mathlib.Core.List.{List, [], _∷_}
 use lib.Dec.{eqb, ltb, leb}
 use lib.ListN.{length}
 use Rattle.lists.specs.Every.{every}
 use Rattle.lists.specs.Part.{part}
-use Rattle.fields.specs.Encoding.{Field, Encodes, wholeFields, cutField}
+use Rattle.fields.specs.Encoding.{Field, wholeFields, cutField}
 use Rattle.molecule_fields.specs.Widths.{implies, wellFormed}
 use Rattle.molecule_encoding.specs.declared.Span.{Span}
 use Rattle.molecule_encoding.specs.declared.StrandFields.{StrandFields}
@@ -57,9 +56,13 @@ valid fs =
     && ((wholeStrand 0x20 fs && annotatedStrand 0x20 fs)
     && announced fs)))
 
+-- The most bytes.
+abbrev pub mostBytes : ℕ
+mostBytes = 65536
+
 -- Bytes that are a molecule: not over 65,536, whole fields, and those valid.
 unfoldable pub accepted : List ℕ → Bool
-accepted bytes = leb (length bytes) 65536 && (not (cutField bytes) && valid (wholeFields bytes))
+accepted bytes = leb (length bytes) mostBytes && (not (cutField bytes) && valid (wholeFields bytes))
 
 abbrev pub absent : Span
 absent = record { present = false; offset = 0; length = 0 }
@@ -100,12 +103,6 @@ molecule size fs = record {
 -- What the reader answers.
 unfoldable pub decoded : List ℕ → Decoded
 decoded bytes = cond (accepted bytes) (Of (molecule (length bytes) (wholeFields bytes))) (Refused 13)
-
--- Bytes that the format allows for some fields.
-pub record EncodesMolecule (bytes : List ℕ) (fs : List Field) : Type 0 where
-  pub encodes : Encodes bytes fs
-  pub small : length bytes ≤ 65536
-  pub is-valid : valid fs ≡ true
 
 -- The value of the field with a tag.
 unfoldable pub valueOf : ℕ → List Field → List ℕ

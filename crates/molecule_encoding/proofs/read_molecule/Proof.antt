@@ -8,7 +8,7 @@ use borrow.Author.Tests.{not-true, not-false}
 use denote.Ref.{now}
 use lib.ListN.{length}
 use Rattle.fields.specs.Encoding.{wholeFields}
-use Rattle.molecule_encoding.specs.Format.{fieldsFit, spanOf, molecule, complete}
+use Rattle.molecule_encoding.specs.Format.{mostBytes, fieldsFit, spanOf, molecule, complete}
 use Rattle.molecule_encoding.proofs.Accepted.{too-big, unfit, incomplete, completed, fit-ascending}
 use Rattle.molecule_encoding.proofs.read_molecule.Statement.{statement}
 use Rattle.molecule_encoding.proofs.read_molecule.Tie as tie
@@ -16,7 +16,7 @@ use Rattle.molecule_encoding.proofs.read_molecule.Tie as tie
 abbrev input : tie.After-fields-fit → List ℕ
 input c = now (c .before .before .before .args .bytes)
 
-small : (c : tie.After-fields-fit) → length (input c) ≤ 65536
+small : (c : tie.After-fields-fit) → length (input c) ≤ mostBytes
 small c = omega arith
 
 fit : (c : tie.Else2) → fieldsFit 0 (input (c .before)) ≡ true
