@@ -1,4 +1,6 @@
--- What the reads of a run are.
+-- What the reads of a run are: proofs of specs/Claims.antt.
+--     each-read, only-reads     of `EachRead` and `OnlyReads`
+--     only-these      fields that are reads, by the format's words
 --     none-leaves     every read's part lies within the run, so that row 10 refuses none
 --     told            of a run of reads, each has its field's flags, and its part holds the value after them
 -- Assumes nothing.
@@ -7,20 +9,22 @@ use mathlib.Core.Bool.{Bool, true, false, cond, not, _&&_, _||_}
 use mathlib.Core.List.{List, [], _∷_, map, foldl}
 use Prim.Native.Nat.{ℕ, _+_, _-_, _≤_}
 use native.Mathlib.Omega.{arith}
-use borrow.Author.Tests.{le-ltb, leb-true}
+use borrow.Author.Tests.{le-ltb, le-leb, leb-true, eq-eqb, eqb-true, not-true}
 use lib.Dec.{eqb, leb}
 use lib.ListN.{length, drop}
 use Rattle.lists.specs.Every.{every}
 use Rattle.lists.specs.Part.{leaves, part}
 use Rattle.lists.proofs.Part.{part-after}
 use Rattle.refusals.proofs.Condition.{both-hold}
-use Rattle.fields.specs.Encoding.{Field, Fields, wholeFields, cutField, fieldAt}
+use Rattle.fields.specs.Encoding.{Field, encoded, Fields, fields, fieldsOf, wholeFields, cutField, fieldAt}
 use Rattle.fields.specs.declared.FieldAt.{FieldAt}
+use Rattle.fields.proofs.Fields.{read-back, written}
 use Rattle.fields.proofs.Walk.{BeginsAt, along}
 use Rattle.molecule_fields.specs.Widths.{isRead, flagsOf, basesOf, isRun}
 use Rattle.source_reads.specs.Reads.{readLeaves, anyLeaves}
 use Rattle.source_reads.specs.declared.SourceRead.{SourceRead}
 use Rattle.molecule_reads.specs.Run.{readOf, readsFrom, readsOf}
+use Rattle.molecule_reads.specs.Claims.{AllReads, said, shown, EachRead, OnlyReads}
 
 -- One more read within a buffer of n bytes.
 stays-too : (n : ℕ) (read : SourceRead) (reads : List SourceRead) → readLeaves n read ≡ false → anyLeaves n reads ≡ false → anyLeaves n (read ∷ reads) ≡ false
@@ -66,7 +70,7 @@ module _ (run : List ℕ) where
 
   -- A read's flags and bases, and those of a field.
   abbrev seen : SourceRead → ℕ × List ℕ
-  seen read = (read .flags, part (read .offset) (read .length) run)
+  seen read = shown run read
 
   abbrev meant : Field → ℕ × List ℕ
   meant f = (flagsOf f, basesOf f)
@@ -107,3 +111,33 @@ module _ (run : List ℕ) where
   pub told : isRun run ≡ true → map seen (readsOf run) ≡ map meant (wholeFields run)
   unfolding readsOf
   told = along run Told told-none told-whole 0
+
+all-reads : (fs : List Field) → AllReads fs → every isRead fs ≡ true
+unfolding every
+all-reads [] all = refl
+all-reads (f ∷ fs) all = rw (eq-eqb (f .tag) 0x30 (all .0 .0), le-leb 2 (length (f .value)) (all .0 .1)) (all-reads fs (all .1))
+
+pub only-these : (fs : List Field) → every isRead fs ≡ true → AllReads fs
+unfolding every
+only-these [] e = tt
+only-these (f ∷ fs) e =
+    let (here, later) = both-hold (isRead f) (every isRead fs) e in
+    let (tag, size) = both-hold (eqb (f .tag) 0x30) (leb 2 (length (f .value))) here in
+    ((eqb-true (f .tag) 0x30 tag, leb-true 2 (length (f .value)) size), only-these fs later)
+
+pub each-read : EachRead
+unfolding isRun flagsOf
+each-read fs short all =
+    let are : fieldsOf (encoded fs) ≡ fields fs false = read-back fs short in
+    let whole : (not (cutField (encoded fs)) && every isRead (wholeFields (encoded fs))) ≡ true = ap (λ (x : Fields). not (x .cut-one) && every isRead (x .whole-ones)) are ∙ all-reads fs all in
+    record {
+      reads = told (encoded fs) whole ∙ ap (λ (x : Fields). map said (x .whole-ones)) are;
+      whole = whole;
+      stay = none-leaves (encoded fs);
+    }
+
+pub only-reads : OnlyReads
+unfolding isRun
+only-reads run small e =
+    let (uncut, all) = both-hold (not (cutField run)) (every isRead (wholeFields run)) e in
+    (written run small (not-true (cutField run) uncut), only-these (wholeFields run) all)
