@@ -1,15 +1,15 @@
 -- The errors of a run's reads by its fields: `each-counted`, of specs/Counted.antt. Assumes nothing.
 use mathlib.Core.Path.{_≡_, refl, sym, ap, _∙_}
-use mathlib.Core.Bool.{Bool, true, false, cond, not, _&&_, _||_, true≢false}
+use mathlib.Core.Bool.{Bool, true, false, _&&_, _||_, true≢false}
 use mathlib.Core.List.{List, [], _∷_, map, foldl}
-use Prim.Native.Nat.{ℕ, suc, _+_, _≤_, _<_, min}
+use Prim.Native.Nat.{ℕ, _+_, _≤_, _<_, min}
 use native.Mathlib.Omega.{arith}
 use borrow.Author.Tests.{ltb-true}
 use lib.Dec.{ltb}
 use lib.ListN.{length, take, drop, getD, length-take, length-drop}
 use lib.Seq.{getD-take, getD-drop}
 use Rattle.lists.specs.Count.{countOf}
-use Rattle.lists.specs.Part.{leaves, part}
+use Rattle.lists.specs.Part.{part}
 use Rattle.lists.proofs.Count.{count-cons}
 use Rattle.lists.proofs.Part.{stays}
 use Rattle.flags.specs.Flags.{isSet}

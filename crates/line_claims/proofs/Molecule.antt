@@ -10,10 +10,10 @@ use native.Mathlib.Omega.{arith}
 use lib.ListN.{length, drop, replicate, length-map, length-append, length-drop, length-replicate}
 use Rattle.lists.specs.Output.{put, answer, after, unless}
 use Rattle.lists.specs.Part.{onlyIf}
-use Rattle.refusals.specs.Refusal.{_if_, TooLong, Ragged, TooManyReads, tooLong, ragged, tooMany, refusal}
+use Rattle.refusals.specs.Refusal.{tooLong, ragged, tooMany, refusal}
 use Rattle.refusals.proofs.Condition.{neither}
 use Rattle.byte_numbers.specs.Bytes.{words16, words32}
-use Rattle.fields.specs.Encoding.{Field, IsBytes, encoded, wholeFields}
+use Rattle.fields.specs.Encoding.{Field, encoded, wholeFields}
 use Rattle.molecule_fields.specs.Widths.{isRun}
 use Rattle.molecule_encoding.specs.Format.{has, molecule, decoded, valueOf, valueAt}
 use Rattle.molecule_encoding.specs.Claims.{EncodesMolecule, withTag, PartsAre}
@@ -29,16 +29,16 @@ use Rattle.duplex_min_reads.specs.MinReads.{refused}
 use Rattle.duplex_kind.specs.Kind.{Strand, given, positions, shorterPresent, recordLength, covered, kindBy, kindOf, long, uneven, givenFaults}
 use Rattle.duplex_kind.specs.declared.DuplexConsensus.{DuplexConsensus}
 use Rattle.duplex_kind.specs.declared.DuplexConsensus.the-variants.{Refused, NoRecord, Ab, Ba, Both}
-use Rattle.duplex_metrics.specs.Metrics.{Input, input}
+use Rattle.duplex_metrics.specs.Metrics.{input}
 use Rattle.molecule_consensus.specs.Bytes.{seen, misfit, broken, inputsRefused}
-use Rattle.line_format.specs.Line.{Columns, columns, noneText, refusedText}
+use Rattle.line_format.specs.Line.{Columns, columns, refusedText}
 use Rattle.line_format.specs.declared.Kind.{Kind}
 use Rattle.line_format.specs.declared.Kind.the-variants.{Ab as Ab-kind, Ba as Ba-kind, Both as Both-kind}
-use Rattle.line_report.specs.Report.{Strands, strands, recordReport, reported}
+use Rattle.line_report.specs.Report.{Strands, strands, reported}
 use Rattle.line_report.specs.declared.Report.{Report}
 use Rattle.line_record.specs.Line.{front, reportText, answerText}
 use Rattle.line_strands.specs.Strands.{zeros, numberOf, recordIn, countsOf, strandsText}
-use Rattle.line_molecule.specs.Line.{strandIn, thresholdsOf, readText, moleculeText}
+use Rattle.line_molecule.specs.Line.{strandIn, readText, moleculeText}
 use Rattle.line_claims.specs.Claims.{places, Printed, none, record-line, TheReads}
 use Rattle.line_claims.proofs.Places.{Sized, strand-in, sized-a, sized-b}
 use Rattle.line_claims.proofs.Report.{Measured, Even, own-report}

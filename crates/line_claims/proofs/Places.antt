@@ -3,7 +3,7 @@
 --     Sized         its byte counts fit the widths, and rows 7 and 8 are met where its positions say so
 --     sized-a, sized-b     that this is so of both strands of a molecule
 -- Assumes nothing.
-use mathlib.Core.Path.{_≡_, refl, sym, ap, _∙_}
+use mathlib.Core.Path.{_≡_, refl, sym, _∙_}
 use mathlib.Core.Bool.{Bool, true, false, cond, not, _&&_, _||_, true≢false}
 use mathlib.Core.List.{List, [], _∷_}
 use Prim.Native.Nat.{ℕ, _+_, _-_, _/_, _%_, _≤_}
@@ -17,7 +17,7 @@ use Rattle.refusals.specs.Refusal.{tooLong, ragged}
 use Rattle.refusals.proofs.Condition.{both-hold, neither, not-too-long, not-ragged}
 use Rattle.methylation.specs.Arrays.{evidenceTooLong, evidenceUneven}
 use Rattle.vanilla_caller.specs.Strand.{strandTooLong, strandRagged}
-use Rattle.byte_numbers.specs.Bytes.{numberOf, words16}
+use Rattle.byte_numbers.specs.Bytes.{words16}
 use Rattle.byte_numbers.proofs.Bytes.{length-numbers}
 use Rattle.byte_numbers.proofs.Groups.{length-by-group}
 use Rattle.fields.specs.Encoding.{Field, field}

@@ -1,24 +1,24 @@
 -- What duplexline prints for every input: `refuses` and `otherwise`, of specs/Claims.antt. Assumes nothing.
 use mathlib.Core.Path.{_≡_, refl, sym, ap, _∙_}
-use mathlib.Core.Bool.{Bool, true, false, cond, not, _&&_, _||_}
+use mathlib.Core.Bool.{Bool, true, false, cond, not, _&&_}
 use mathlib.Core.List.{List, [], _∷_}
 use Prim.Native.Nat.{ℕ, zero, suc, _<_}
 use native.Mathlib.Omega.{arith}
 use borrow.Author.Tests.{le-ltb, lt-ltb, ne-eqb}
 use lib.Dec.{eqb, ltb}
 use lib.ListN.{length, getD}
-use Rattle.refusals.specs.Refusal.{tooLong, ragged, tooMany, refusal}
+use Rattle.refusals.specs.Refusal.{refusal}
 use Rattle.byte_numbers.specs.Bytes.{words32}
 use Rattle.fields.specs.Encoding.{Field, IsBytes, wholeFields}
 use Rattle.molecule_encoding.specs.Format.{accepted, molecule, decoded, valueOf}
-use Rattle.molecule_encoding.specs.Claims.{EncodesMolecule, withTag}
+use Rattle.molecule_encoding.specs.Claims.{EncodesMolecule}
 use Rattle.molecule_encoding.specs.declared.Molecule.{Molecule}
 use Rattle.molecule_encoding.specs.declared.Decoded.the-variants.{Of}
 use Rattle.molecule_encoding.proofs.Claims.{only}
 use Rattle.duplex_min_reads.specs.MinReads.{faults, refused}
 use Rattle.line_format.specs.Line.{refusedText}
 use Rattle.line_molecule.specs.Line.{decodedText, textOf}
-use Rattle.line_claims.specs.Claims.{places, moleculeFaults, lineFaults, lineRefused, Refuses, Printed, Otherwise}
+use Rattle.line_claims.specs.Claims.{moleculeFaults, lineFaults, lineRefused, Refuses, Printed, Otherwise}
 use Rattle.line_claims.proofs.Texts.{same-number, not-printed}
 use Rattle.line_claims.proofs.Molecule.{own, by-thresholds, by-rows, by-record}
 

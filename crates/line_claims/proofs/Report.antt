@@ -16,7 +16,7 @@ use Rattle.duplex_reads.specs.Reads.{gate}
 use Rattle.duplex_reads.specs.declared.Gate.{Gate}
 use Rattle.duplex_reads.specs.declared.Gate.the-variants.{Refused as Refused-gate, Kept, Below}
 use Rattle.duplex_gate.specs.ConsensusGate.{largestWithin, consensusGate}
-use Rattle.duplex_metrics.specs.Metrics.{Input, lengths, metricsFaults, metricsRefused, figuresA, figuresB, figuresC, noCalls, metricsRecord, metricsOf}
+use Rattle.duplex_metrics.specs.Metrics.{Input, metricsFaults, metricsRefused, figuresA, figuresB, figuresC, noCalls, metricsRecord, metricsOf}
 use Rattle.duplex_metrics.specs.declared.Metrics.the-variants.{Refused, Of}
 use Rattle.duplex_metrics.specs.declared.MetricsRecord.{MetricsRecord}
 use Rattle.metrics_bits.specs.Bits.{inBits, metricsWords}

@@ -6,7 +6,7 @@
 use mathlib.Core.Path.{_≡_, refl, sym, ap, _∙_}
 use mathlib.Core.Logic.{_⊎_, inl, inr, ⊎-elim}
 use mathlib.Core.Bool.{Bool, true, false, cond, not, _&&_, _||_, true≢false}
-use mathlib.Core.List.{List, [], _∷_, _++_}
+use mathlib.Core.List.{List, [], _∷_}
 use Prim.Native.Nat.{ℕ, _+_, _-_, _≤_}
 use native.Mathlib.Omega.{arith}
 use borrow.Author.Tests.{ltb-true, leb-true, eqb-true, le-ltb, eq-eqb, ne-eqb}
@@ -19,8 +19,8 @@ use Rattle.refusals.proofs.Condition.{both-hold, neither}
 use Rattle.fields.specs.Encoding.{Field, encodedField, encoded, Short, Fields, fields, fieldsOf, wholeFields}
 use Rattle.fields.proofs.Fields.{read-back}
 use Rattle.molecule_fields.specs.Widths.{strandTag, knownTag, lengthFits, bitsFit, wellFormed, isRead}
-use Rattle.molecule_encoding.specs.Format.{follows, ascendAfter, ascending, has, valid, wholeStrand, annotatedStrand, announced, absent, span, spanFrom, spanOf, strandOf, readsAfter, molecule, decoded, valueOf, valueAt}
-use Rattle.molecule_encoding.specs.Claims.{EncodesMolecule, withTag, PartIs, PartsAre, Holds}
+use Rattle.molecule_encoding.specs.Format.{follows, ascendAfter, ascending, has, valid, wholeStrand, annotatedStrand, announced, absent, span, spanFrom, spanOf, strandOf, readsAfter, molecule, valueAt}
+use Rattle.molecule_encoding.specs.Claims.{EncodesMolecule, withTag, PartIs, Holds}
 use Rattle.molecule_encoding.specs.declared.Span.{Span}
 use Rattle.molecule_encoding.specs.declared.Molecule.{Molecule}
 use Rattle.molecule_encoding.specs.declared.Decoded.the-variants.{Of}

@@ -12,7 +12,7 @@ use mathlib.Core.List.{List, [], _∷_}
 use lib.Dec.{eqb}
 use lib.ListN.{length}
 use Rattle.fields.specs.Encoding.{Field, Encodes, IsBytes, encoded, wholeFields}
-use Rattle.molecule_encoding.specs.Format.{has, valid, absent, span, molecule, decoded, valueOf, valueAt}
+use Rattle.molecule_encoding.specs.Format.{has, valid, molecule, decoded, valueOf, valueAt}
 use Rattle.molecule_encoding.specs.declared.Span.{Span}
 use Rattle.molecule_encoding.specs.declared.StrandFields.{StrandFields}
 use Rattle.molecule_encoding.specs.declared.Molecule.{Molecule}
