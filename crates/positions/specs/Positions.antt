@@ -1,14 +1,18 @@
 -- Document 01's positions to prove, one row each: those of bases and qualities, of errors without a list, of methylation calls and
--- their ML byte, and of rates.
+-- their ML byte, and of rates. Of P1 to P7 and P10 to P12 a row is one position; P8 and P9 are stated of all that document 01 leaves open.
 use mathlib.Core.Path.{_≡_}
-use Prim.Native.Nat.{ℕ}
+use mathlib.Core.Bool.{false}
+use mathlib.Core.List.{[], _∷_}
+use Prim.Native.Nat.{ℕ, _≤_}
 use Rattle.dna.specs.Dna.{letterA, letterC, letterN, letterT}
 use Rattle.rates.specs.Rate.{bitsOf}
 use Rattle.methylation.specs.declared.MethylationMode.the-variants.{EmSeq}
 use Rattle.methylation_calls.specs.Calls.{mlOf}
 use Rattle.duplex_call.specs.Annotated.{combined}
-use Rattle.duplex_molecule.specs.declared.CtInput.the-variants.{IsA}
-use Rattle.duplex_errors.specs.Errors.{agreeing, disagreeing}
+use Rattle.vanilla_caller.specs.Strand.{Arrays, arrays}
+use Rattle.duplex_molecule.specs.declared.CtInput.{CtInput}
+use Rattle.duplex_molecule.specs.declared.CtInput.the-variants.{Neither, IsA}
+use Rattle.duplex_arrays.specs.Positions.{combinedErrors}
 use Rattle.duplex_position.specs.Combination.{uncalled}
 use Rattle.duplex_position.specs.declared.Position.{Position}
 
@@ -18,6 +22,10 @@ shows base qual = record { base = base; qual = qual; raw = base }
 
 abbrev pub masks : ℕ → Position
 masks raw = record { base = letterN; qual = 2; raw = raw }
+
+-- A strand of one position, with this base, quality, depth and errors.
+abbrev pub one : ℕ → ℕ → ℕ → ℕ → Arrays
+one base qual depth errors = arrays (base ∷ []) (qual ∷ []) (depth ∷ []) (errors ∷ []) [] [] []
 
 pub record Positions : Type 0 where
   -- P1: A30, A20: A50.
@@ -35,10 +43,11 @@ pub record Positions : Type 0 where
   -- P7: 1 + 1: N2; 1 + 2 keeps the base with 3.
   pub p7 : uncalled letterA 1 letterA 1 ≡ masks letterA
   pub p7-kept : uncalled letterA 1 letterA 2 ≡ shows letterA 3
-  -- P8: no list, A wins, A's errors 0, B's depth 3 and errors 5: 0.
-  pub p8 : disagreeing 0 3 5 ≡ 0
-  -- P9: equal bases, errors 20,000 each: 32,767.
-  pub p9 : agreeing 20000 20000 ≡ 32767
+  -- P8: no list, A wins, A's errors 0, B's depth 3 and errors 5: 0. The bases are any two that differ and A's quality is at least
+  -- B's; A's depth, and what would be counted of a list, are anything.
+  pub p8 : (counted : ℕ → ℕ) (a qa depth b qb : ℕ) → (a ≡ b → ⊥) → qb ≤ qa → combinedErrors false counted 1 Neither (one a qa depth 0) (one b qb 3 5) ≡ 0 ∷ []
+  -- P9: no list, equal bases, errors 20,000 each: 32,767. With any base, qualities and depths, and also where there may be calls.
+  pub p9 : (counted : ℕ → ℕ) (ct : CtInput) (base qa da qb db : ℕ) → combinedErrors false counted 1 ct (one base qa da 20000) (one base qb db 20000) ≡ 32767 ∷ []
   -- P10: the C-to-T strand shows T30, the other C40: C40 without an informative mark, C70 with one.
   pub p10 : combined IsA letterT 30 0 letterC 40 0 ≡ shows letterC 40
   pub p10-marked : combined IsA letterT 30 1 letterC 40 0 ≡ shows letterC 70
