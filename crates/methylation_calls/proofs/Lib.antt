@@ -1,2 +1,1 @@
 pub mod Ml
-pub mod Examples

@@ -1,0 +1,4 @@
+pub mod Decimal
+pub mod Ml
+pub mod Papers
+pub mod Quality
