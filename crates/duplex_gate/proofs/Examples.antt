@@ -9,8 +9,6 @@ use Rattle.duplex_reads.specs.declared.Gate.the-variants.{Refused, Kept, Below}
 use Rattle.duplex_gate.specs.ConsensusGate.{largestWithin, consensusGate}
 
 pub record Examples : Type 0 where
-  -- A depth of 40,000 reaches a threshold of 40,000.
-  pub uncapped : consensusGate 1 (40000 ∷ []) [] (40000 ∷ 40000 ∷ 0 ∷ []) ≡ Kept
   -- A depth past the record's length does not count.
   pub within : consensusGate 1 (1 ∷ 2 ∷ []) (1 ∷ []) (3 ∷ 1 ∷ []) ≡ Below
   -- The larger depth is XY, whichever strand has it.
@@ -20,4 +18,4 @@ pub record Examples : Type 0 where
 
 pub examples : Examples
 unfolding largestWithin consensusGate gate faults reachesAll refusal answer unless
-examples = record { uncapped = refl; within = refl; larger = refl; thresholds-first = refl }
+examples = record { within = refl; larger = refl; thresholds-first = refl }
