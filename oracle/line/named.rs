@@ -252,7 +252,7 @@ pub fn unlike_the_paper() -> (usize, Vec<&'static str>) {
     (by_hand.len(), by_hand.iter().filter(|n| !says(n)).map(|n| n.name).collect())
 }
 
-// Each as NAME.tray and NAME.expected; all one after another as `stdin`, each behind its length in four bytes, and `stdout`; and
+// Each as NAME.tray and NAME.expected; all one after another as `molecules`, each behind its length in four bytes, and `expected`; and
 // their names in this order.
 pub fn write(directory: &Path) -> std::io::Result<()> {
     std::fs::create_dir_all(directory)?;
@@ -267,6 +267,6 @@ pub fn write(directory: &Path) -> std::io::Result<()> {
         names += &format!("{name}\n");
     }
     std::fs::write(directory.join("names"), names)?;
-    std::fs::write(directory.join("stdin"), stdin)?;
-    std::fs::write(directory.join("stdout"), stdout)
+    std::fs::write(directory.join("molecules"), stdin)?;
+    std::fs::write(directory.join("expected"), stdout)
 }

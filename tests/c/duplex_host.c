@@ -606,7 +606,7 @@ static void not_looked_at(void)
     }
 }
 
-/* ---- the fixed list of encoded molecules (crates/test_lines), and the lines that a reference over the Rust printed for it */
+/* ---- the fixed list of encoded molecules (tests/lines), and the lines that a reference over the Rust printed for it */
 
 /* The next text of the file: a refusal's line, or the line behind the header. */
 static char *next_line(FILE *lines)
