@@ -136,36 +136,37 @@ module _ (a b : Strand) (listed : Bool) (count : ℕ) (leaving : Bool) (before :
     alone :
         (s : Strand) (of : SingleStrandRecord → DuplexConsensus)
         → ((n : ℕ) → of (Refused-single n) ≡ Refused n)
-        → {r : SingleStrandRecord}
+        → {r : SingleStrandRecord} {answered : DuplexConsensus}
+        → answered ≡ of r
         → singleRefused (s .annotation) (s .arrays) (firstStrand before) ≡ refused
         → of (Written-single (positions s)) ≡ kindOf a b
         → singleArrays (s .annotation) (s .arrays) ≡ recordArrays a b listed uncounted (kindOf a b)
         → SingleAs (s .annotation) (s .arrays) (firstStrand before) (firstStrand now) r
         → Same (before .b) (now .b)
-        → Promised (of r)
-    alone s of h e kind written single other =
+        → Promised answered
+    alone s of h told e kind written single other =
         let number = singleRefused (s .annotation) (s .arrays) (firstStrand before) in
         record {
-          answered = ap of (single .answered) ∙ handed-single of h number _ ∙ ap (answer Refused number) kind ∙ ap (λ (n : ℕ). answer Refused n (kindOf a b)) e;
+          answered = told ∙ ap of (single .answered) ∙ handed-single of h number _ ∙ ap (answer Refused number) kind ∙ ap (λ (n : ℕ). answer Refused n (kindOf a b)) e;
           outputs = leaves-equal e written (leaves-first s number (single .outputs) other);
         }
 
-    pub alone-ab : {m : ℕ} {r : SingleStrandRecord} → recordKind a b listed count leaving ≡ Ab m → SingleAs (a .annotation) (a .arrays) (firstStrand before) (firstStrand now) r → Same (before .b) (now .b) → Promised (abOf r)
-    alone-ab e single other =
+    pub alone-ab : {m : ℕ} {r : SingleStrandRecord} {answered : DuplexConsensus} → answered ≡ abOf r → recordKind a b listed count leaving ≡ Ab m → SingleAs (a .annotation) (a .arrays) (firstStrand before) (firstStrand now) r → Same (before .b) (now .b) → Promised answered
+    alone-ab told e single other =
         let (z, k, p) = is-ab a b listed count leaving e in
-        alone a abOf (λ n. refl) (single-12 a before p ∙ sym (left-12 z k)) (sym k) (ap (recordArrays a b listed uncounted) (sym k)) single other
+        alone a abOf (λ n. refl) told (single-12 a before p ∙ sym (left-12 z k)) (sym k) (ap (recordArrays a b listed uncounted) (sym k)) single other
 
-    pub alone-ba : {m : ℕ} {r : SingleStrandRecord} → recordKind a b listed count leaving ≡ Ba m → SingleAs (b .annotation) (b .arrays) (firstStrand before) (firstStrand now) r → Same (before .b) (now .b) → Promised (baOf r)
-    alone-ba e single other =
+    pub alone-ba : {m : ℕ} {r : SingleStrandRecord} {answered : DuplexConsensus} → answered ≡ baOf r → recordKind a b listed count leaving ≡ Ba m → SingleAs (b .annotation) (b .arrays) (firstStrand before) (firstStrand now) r → Same (before .b) (now .b) → Promised answered
+    alone-ba told e single other =
         let (z, k, p) = is-ba a b listed count leaving e in
-        alone b baOf (λ n. refl) (single-12 b before p ∙ sym (left-12 z k)) (sym k) (ap (recordArrays a b listed uncounted) (sym k)) single other
+        alone b baOf (λ n. refl) told (single-12 b before p ∙ sym (left-12 z k)) (sym k) (ap (recordArrays a b listed uncounted) (sym k)) single other
 
-    pub both : {m : ℕ} {r : Combined} → recordKind a b listed count leaving ≡ Both m → CombinedAs (ctInput (a .annotation) (b .annotation)) (a .annotation) (a .arrays) (b .annotation) (b .arrays) listed before now r → Promised (bothOf r)
-    both e combined =
+    pub both : {m : ℕ} {r : Combined} {answered : DuplexConsensus} → answered ≡ bothOf r → recordKind a b listed count leaving ≡ Both m → CombinedAs (ctInput (a .annotation) (b .annotation)) (a .annotation) (a .arrays) (b .annotation) (b .arrays) listed before now r → Promised answered
+    both told e combined =
         let (z, k, p, q) = is-both a b listed count leaving e in
         let number = combineRefused (a .annotation) (a .arrays) (b .annotation) (b .arrays) before in
         let same : number ≡ refused = both-12 a b before p q ∙ sym (left-12 z k) in
         record {
-          answered = ap bothOf (combined .answered) ∙ answer-map bothOf Refused-combined number _ ∙ ap (answer Refused number) (sym k) ∙ ap (λ (n : ℕ). answer Refused n (kindOf a b)) same;
+          answered = told ∙ ap bothOf (combined .answered) ∙ answer-map bothOf Refused-combined number _ ∙ ap (answer Refused number) (sym k) ∙ ap (λ (n : ℕ). answer Refused n (kindOf a b)) same;
           outputs = leaves-equal same (ap (recordArrays a b listed uncounted) (sym k)) (combined .outputs);
         }

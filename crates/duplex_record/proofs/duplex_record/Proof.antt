@@ -33,31 +33,31 @@ returns c =
     let combined = c .before .before .before .before .before .before .before .before .before .before .before .before .before .before .before .before .before .before .before in
     let told = combined .before .before .before .before .before .before .before .before .before .before .before .before .before in
     let asked = told .before .before in
-    rw (c .both-of .ensures) (both _ _ _ _ _ _ _ (kind-is asked (told .enum-told4 .given .1)) (combined .combine-strands-annotated .ensures))
+    both (strandA (start asked)) (strandB (start asked)) _ _ _ _ _ (c .both-of .ensures) (kind-is asked (told .enum-told4 .given .1)) (combined .combine-strands-annotated .ensures)
 
 returns-2 : tie.Need-returns-2
 returns-2 c =
     let asked = c .before .before .before in
-    turned-down _ _ _ _ _ _ (kind-is asked (c .before .number .given .1))
+    turned-down (strandA (start asked)) (strandB (start asked)) _ _ _ _ (kind-is asked (c .before .number .given .1))
 
 returns-3 : tie.Need-returns-3
 returns-3 c =
     let asked = c .before .before in
-    none _ _ _ _ _ _ (kind-is asked (c .enum-told .given .1))
+    none (strandA (start asked)) (strandB (start asked)) _ _ _ _ (kind-is asked (c .enum-told .given .1))
 
 returns-4 : tie.Need-returns-4
 returns-4 c =
     let single = c .before .before .before .before .before .before .before .before .before .before .before .before .before in
     let told = single .before .before .before .before .before .before .before in
     let asked = told .before .before in
-    rw (c .ab-of .ensures) (alone-ab _ _ _ _ _ _ _ (kind-is asked (told .enum-told2 .given .1)) (single .gated-single-strand .ensures) same)
+    alone-ab (strandA (start asked)) (strandB (start asked)) _ _ _ _ _ (c .ab-of .ensures) (kind-is asked (told .enum-told2 .given .1)) (single .gated-single-strand .ensures) same
 
 returns-5 : tie.Need-returns-5
 returns-5 c =
     let single = c .before .before .before .before .before .before .before .before .before .before .before .before .before in
     let told = single .before .before .before .before .before .before .before in
     let asked = told .before .before in
-    rw (c .ba-of .ensures) (alone-ba _ _ _ _ _ _ _ (kind-is asked (told .enum-told3 .given .1)) (single .gated-single-strand2 .ensures) same)
+    alone-ba (strandA (start asked)) (strandB (start asked)) _ _ _ _ _ (c .ba-of .ensures) (kind-is asked (told .enum-told3 .given .1)) (single .gated-single-strand2 .ensures) same
 
 returns-6 : tie.Need-returns-6
 returns-6 c =
@@ -66,7 +66,7 @@ returns-6 c =
     let none = rw (test .before .before .is-annotated .ensures, test .before .is-annotated2 .ensures) at (test .if1 .left) in
     let told = test .before .before .before in
     let asked = told .before .before in
-    rw (c .both-of2 .ensures) (both _ _ _ _ _ _ _ (kind-is asked (told .enum-told4 .given .1)) (unannotated _ _ _ _ _ none (combined .combine-strands .ensures) (record { a = same; b = same })))
+    both (strandA (start asked)) (strandB (start asked)) _ _ _ _ _ (c .both-of2 .ensures) (kind-is asked (told .enum-told4 .given .1)) (unannotated _ _ _ _ _ none (combined .combine-strands .ensures) (record { a = same; b = same }))
 
 pub duplex-record-spec : {M : Type 1} → statement M
 duplex-record-spec =
