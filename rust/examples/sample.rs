@@ -1,38 +1,41 @@
 //! Builds molecules, asks the library for their duplex records and for the metrics of these, and prints both.
 //! `bin/rust_sample` builds and runs it; examples/c/sample.c does the same in C and prints the same.
-use gedrashiw::ConversionPattern::{CToT, GToA};
-use gedrashiw::{Kind, MethylationAnnotation, MethylationEvidence, Refused, SourceRead, Strand, duplex_consensus};
+use gedrashiw::methylation::ConversionPattern::{CToT, GToA};
+use gedrashiw::methylation::{EvidenceArrays, MethylationAnnotation, MethylationEvidence};
+use gedrashiw::{DuplexConsensusCaller, Refusal, SourceReadBuffer, SourceReads, VanillaConsensusRead};
 
 fn joined<T: ToString>(numbers: &[T]) -> String {
     numbers.iter().map(T::to_string).collect::<Vec<_>>().join(" ")
 }
 
-fn print_evidence(name: &str, evidence: Option<&Vec<MethylationEvidence>>) {
-    let Some(evidence) = evidence else { return };
+fn print_evidence(name: &str, methylation: Option<&MethylationAnnotation>) {
+    let Some(methylation) = methylation else { return };
     print!("  evidence of the {name} strand");
-    for (i, e) in evidence.iter().enumerate().filter(|(_, e)| e.informative) {
+    for (i, e) in methylation.evidence.iter().enumerate().filter(|(_, e)| e.informative) {
         print!(" {i}:{}/{}", e.unconverted_count, e.converted_count);
     }
     println!();
 }
 
-fn print_record(name: &str, a: Option<&Strand>, b: Option<&Strand>, reads: Option<&[SourceRead]>) -> Result<(), Refused> {
-    let Some(record) = duplex_consensus(a, b, reads)? else {
+type Strand<'a> = Option<&'a VanillaConsensusRead<'a>>;
+
+fn print_record(name: &str, a: Strand, b: Strand, reads: Option<SourceReads>) -> Result<(), Refusal> {
+    let Some(record) = DuplexConsensusCaller::duplex_consensus(a, b, reads)? else {
         println!("{name}: no record, 0 positions");
         return Ok(());
     };
-    let kind = match record.kind {
-        Kind::Ab => "strand A alone",
-        Kind::Ba => "strand B alone",
-        Kind::Both => "both strands",
+    let kind = match (&record.ba_consensus, record.is_ba_only) {
+        (Some(_), _) => "both strands",
+        (None, false) => "strand A alone",
+        (None, true) => "strand B alone",
     };
-    println!("{name}: {kind}, {} positions", record.bases.len());
+    println!("{name}: {kind}, {} positions", record.len());
     println!("  bases {}", String::from_utf8_lossy(&record.bases));
     println!("  quals {}", joined(&record.quals));
     println!("  errors {}", joined(&record.errors));
-    print_evidence("first", record.first_evidence.as_ref());
-    print_evidence("second", record.second_evidence.as_ref());
-    let m = record.metrics(a, b)?;
+    print_evidence("first", record.ab_consensus.methylation.as_ref());
+    print_evidence("second", record.ba_consensus.as_ref().and_then(|b| b.methylation.as_ref()));
+    let m = record.metrics()?;
     println!("  aD {} aM {} aE {:.6}", m.aD, m.aM, m.aE);
     println!("  bD {} bM {} bE {:.6}", m.bD, m.bM, m.bE);
     println!("  cD {} cM {} cE {:.6}", m.cD, m.cM, m.cE);
@@ -40,19 +43,19 @@ fn print_record(name: &str, a: Option<&Strand>, b: Option<&Strand>, reads: Optio
     Ok(())
 }
 
-fn print_molecule(name: &str, a: Option<&Strand>, b: Option<&Strand>, reads: Option<&[SourceRead]>) {
-    if let Err(Refused(number)) = print_record(name, a, b, reads) {
-        println!("{name}: refused {number}");
+fn print_molecule(name: &str, a: Strand, b: Strand, reads: Option<SourceReads>) {
+    if let Err(refusal) = print_record(name, a, b, reads) {
+        println!("{name}: refused {}", refusal.number());
     }
 }
 
 fn main() {
     // Document 01's printed example.
-    let a = Strand { bases: b"ACGT", quals: &[30; 4], depths: &[2; 4], errors: &[0; 4], methylation: None };
-    let b = Strand { bases: b"ACTN", quals: &[20, 40, 30, 2], depths: &[1; 4], errors: &[0; 4], methylation: None };
+    let a = VanillaConsensusRead::new(b"ACGT", &[30; 4], &[2; 4], &[0; 4]);
+    let b = VanillaConsensusRead::new(b"ACTN", &[20, 40, 30, 2], &[1; 4], &[0; 4]);
     print_molecule("two strands", Some(&a), Some(&b), None);
     print_molecule("strand B", None, Some(&b), None);
-    let uncovered = Strand { depths: &[0; 4], ..b };
+    let uncovered = VanillaConsensusRead { depths: vec![0; 4].into(), ..b };
     print_molecule("an uncovered strand", None, Some(&uncovered), None);
 
     // Two strands with methylation evidence, and the reads that they were called of.
@@ -64,24 +67,18 @@ fn main() {
     let none = (false, 0, 0);
     let ct_evidence = [(true, 1, 3), (true, 4, 0), none, none, (false, 2, 2), (true, 3, 0)].map(of);
     let ga_evidence = [none, none, (true, 2, 0), (true, 1, 1), none, none].map(of);
-    let ct = Strand {
-        bases: b"TCGATC",
-        quals: &[30, 30, 35, 30, 40, 20],
-        depths: &[4, 4, 4, 4, 4, 3],
-        errors: &[0, 0, 1, 0, 0, 0],
-        methylation: Some(MethylationAnnotation { pattern: CToT, evidence: &ct_evidence }),
-    };
-    let ga = Strand {
-        bases: b"CCGGTA",
-        quals: &[40, 35, 30, 30, 20, 33],
-        depths: &[2; 6],
-        errors: &[0; 6],
-        methylation: Some(MethylationAnnotation { pattern: GToA, evidence: &ga_evidence }),
-    };
-    let reads: [SourceRead; 4] = [(0x41, b"TCGATC"), (0x41, b"CCGATC"), (0x81, b"CCAGTA"), (0x81, b"CCGN")];
-    print_molecule("annotated strands with reads", Some(&ct), Some(&ga), Some(&reads));
+    let arrays = |evidence: &[MethylationEvidence]| -> EvidenceArrays { evidence.iter().copied().collect() };
+    let ct = VanillaConsensusRead::new(b"TCGATC", &[30, 30, 35, 30, 40, 20], &[4, 4, 4, 4, 4, 3], &[0, 0, 1, 0, 0, 0])
+        .annotated(CToT, arrays(&ct_evidence));
+    let ga =
+        VanillaConsensusRead::new(b"CCGGTA", &[40, 35, 30, 30, 20, 33], &[2; 6], &[0; 6]).annotated(GToA, arrays(&ga_evidence));
+    let mut reads = SourceReadBuffer::default();
+    reads.push(0x41, b"TCGATC");
+    reads.push(0x41, b"CCGATC");
+    reads.push(0x81, b"CCAGTA");
+    reads.push(0x81, b"CCGN");
+    print_molecule("annotated strands with reads", Some(&ct), Some(&ga), Some(reads.list()));
 
     // Evidence of fewer positions than the strand.
-    let short = MethylationAnnotation { pattern: GToA, evidence: &ga_evidence[..5] };
-    print_molecule("evidence too short", Some(&ct), Some(&Strand { methylation: Some(short), ..ga }), None);
+    print_molecule("evidence too short", Some(&ct), Some(&ga.annotated(GToA, arrays(&ga_evidence[..5]))), None);
 }

@@ -1,52 +1,174 @@
-//! Numbers as the entry points take them: bytes, low byte first.
-use crate::entries::EVIDENCE_BYTES;
-use crate::{MAX_POSITIONS, MethylationEvidence, SourceRead};
+//! The calls on numbers given as bytes, low byte first, which C programs that keep molecules encoded use. Lengths are in bytes.
+use crate::duplex_caller::Record;
+use crate::entries;
+use crate::methylation::ConversionPattern;
+use crate::refusal::{Refusal, told};
 
-pub fn of_u16s(numbers: &[u16]) -> Vec<u8> {
-    numbers.iter().flat_map(|n| n.to_le_bytes()).collect()
+/// The bytes of the metrics: ten numbers of 32 bits, aD, aM, aE, bD, bM, bE, cD, cM, cE and nc; the rates are their bits.
+pub const METRICS_BYTES: usize = 40;
+
+/// The bytes of a position's evidence: the informative mark, and two numbers of 32 bits, unconverted and converted.
+pub const EVIDENCE_BYTES: usize = 9;
+
+/// The depths and errors of a strand: numbers of 16 bits.
+#[derive(Clone, Copy, Debug, Default)]
+pub struct CountBytes<'a> {
+    /// Its depths.
+    pub depths: &'a [u8],
+    /// Its errors.
+    pub errors: &'a [u8],
 }
 
-pub fn to_u16s(bytes: &[u8]) -> Vec<u16> {
-    bytes.chunks_exact(2).map(|b| u16::from_le_bytes([b[0], b[1]])).collect()
+/// A strand.
+#[derive(Clone, Copy, Debug, Default)]
+pub struct StrandBytes<'a> {
+    /// A byte each.
+    pub bases: &'a [u8],
+    /// A byte each.
+    pub quals: &'a [u8],
+    /// Depths and errors.
+    pub counts: CountBytes<'a>,
+    /// Its annotation, if it has one: its pattern, and its evidence, nine bytes a position.
+    pub annotation: Option<(ConversionPattern, &'a [u8])>,
 }
 
-fn to_u32(b: &[u8]) -> u32 {
-    u32::from_le_bytes([b[0], b[1], b[2], b[3]])
+/// Where a record goes.
+#[derive(Debug, Default)]
+pub struct RecordBytesOut<'a> {
+    /// A byte each.
+    pub bases: &'a mut [u8],
+    /// A byte each.
+    pub quals: &'a mut [u8],
+    /// Numbers of 16 bits.
+    pub errors: &'a mut [u8],
+    /// The evidence of the record's first strand, where that is annotated.
+    pub first_evidence: &'a mut [u8],
+    /// The evidence of its second strand, where there is one and it is annotated.
+    pub second_evidence: &'a mut [u8],
 }
 
-pub fn to_u32s(bytes: &[u8]) -> Vec<u32> {
-    bytes.chunks_exact(4).map(to_u32).collect()
+/// The metrics of a record, of bytes.
+///
+/// # Errors
+///
+/// [`Refusal::Broken`], [`Refusal::TooLong`], [`Refusal::Ragged`].
+///
+/// ```
+/// use gedrashiw::bytes::{CountBytes, metrics};
+///
+/// let out = metrics(CountBytes { depths: &[12, 0], errors: &[2, 0] }, None, b"A", &[2, 0])?;
+/// assert_eq!((&out[..4], &out[32..36]), (&[12, 0, 0, 0][..], &0x3e2a_aaab_u32.to_le_bytes()[..]));
+/// # Ok::<(), gedrashiw::Refusal>(())
+/// ```
+pub fn metrics(
+    first: CountBytes,
+    second: Option<CountBytes>,
+    bases: &[u8],
+    errors: &[u8],
+) -> Result<[u8; METRICS_BYTES], Refusal> {
+    let mut out = [0; METRICS_BYTES];
+    metrics_into(first, second, bases, errors, &mut out).map(|()| out)
 }
 
-pub fn of_evidence(evidence: &[MethylationEvidence]) -> Vec<u8> {
-    let mut bytes = Vec::with_capacity(EVIDENCE_BYTES * evidence.len());
-    for e in evidence {
-        bytes.push(u8::from(e.informative));
-        bytes.extend(e.unconverted_count.to_le_bytes());
-        bytes.extend(e.converted_count.to_le_bytes());
+/// Writes [`metrics`].
+///
+/// # Errors
+///
+/// [`Refusal::Broken`], [`Refusal::TooLong`], [`Refusal::Ragged`], [`Refusal::OutputTooShort`].
+///
+/// ```
+/// use gedrashiw::Refusal;
+/// use gedrashiw::bytes::{CountBytes, metrics_into};
+///
+/// let strand = CountBytes { depths: &[12, 0], errors: &[2, 0] };
+/// assert_eq!(metrics_into(strand, None, b"A", &[2, 0], &mut [0; 39]), Err(Refusal::OutputTooShort));
+/// assert_eq!(metrics_into(strand, None, b"A", &[2], &mut [0; 40]), Err(Refusal::Broken));
+/// ```
+pub fn metrics_into(
+    first: CountBytes,
+    second: Option<CountBytes>,
+    bases: &[u8],
+    errors: &[u8],
+    out: &mut [u8],
+) -> Result<(), Refusal> {
+    let b = second.unwrap_or_default();
+    let refused = entries::gedrashiw_metrics(
+        first.depths,
+        first.errors,
+        u8::from(second.is_some()),
+        b.depths,
+        b.errors,
+        bases,
+        errors,
+        out,
+    );
+    told(refused, ())
+}
+
+/// Writes the duplex record of strands that are given as bytes; `None` where no strand is covered. The reads are a run: of each the
+/// byte 0x30, the number of bytes that follow, the flags, two numbers of 16 bits, and its bases.
+///
+/// # Errors
+///
+/// [`Refusal::Broken`], [`Refusal::TooLong`], [`Refusal::Ragged`], [`Refusal::TooManyReads`], [`Refusal::OutputTooShort`].
+///
+/// ```
+/// use gedrashiw::bytes::{CountBytes, RecordBytesOut, StrandBytes, duplex_consensus_into};
+/// use gedrashiw::{Kind, Record};
+///
+/// let counts = CountBytes { depths: &[1, 0], errors: &[0, 0] };
+/// let a = StrandBytes { bases: b"A", quals: &[30], counts, annotation: None };
+/// let (mut bases, mut quals, mut errors) = ([0; 1], [0; 1], [0; 2]);
+/// let mut out = RecordBytesOut { bases: &mut bases, quals: &mut quals, errors: &mut errors, ..Default::default() };
+/// let reads = [0x30, 3, 0, 0x41, 0, b'G'];
+/// let record = duplex_consensus_into(Some(&a), Some(&a), Some(&reads), &mut out)?;
+/// assert_eq!(record, Some(Record { kind: Kind::Both, positions: 1 }));
+/// assert_eq!((&bases, quals, errors), (b"A", [60], [1, 0]));
+/// # Ok::<(), gedrashiw::Refusal>(())
+/// ```
+pub fn duplex_consensus_into(
+    a: Option<&StrandBytes>,
+    b: Option<&StrandBytes>,
+    reads: Option<&[u8]>,
+    out: &mut RecordBytesOut,
+) -> Result<Option<Record>, Refusal> {
+    let (a_present, b_present) = (u8::from(a.is_some()), u8::from(b.is_some()));
+    let (a, b) = (a.copied().unwrap_or_default(), b.copied().unwrap_or_default());
+    let (a_annotated, a_pattern, a_evidence) = given(a.annotation);
+    let (b_annotated, b_pattern, b_evidence) = given(b.annotation);
+    let record = entries::gedrashiw_duplex_consensus(
+        a_present,
+        a_annotated,
+        a_pattern,
+        a.bases,
+        a.quals,
+        a.counts.depths,
+        a.counts.errors,
+        a_evidence,
+        b_present,
+        b_annotated,
+        b_pattern,
+        b.bases,
+        b.quals,
+        b.counts.depths,
+        b.counts.errors,
+        b_evidence,
+        u8::from(reads.is_some()),
+        reads.unwrap_or_default(),
+        out.bases,
+        out.quals,
+        out.errors,
+        out.first_evidence,
+        out.second_evidence,
+    );
+    told(record.refused, Record::of(record.kind, record.positions))
+}
+
+/// Whether there is an annotation, its pattern as the bytes number it, and its evidence.
+fn given(annotation: Option<(ConversionPattern, &[u8])>) -> (u8, u8, &[u8]) {
+    match annotation {
+        None => (0, 0, &[]),
+        Some((ConversionPattern::CToT, evidence)) => (1, 0, evidence),
+        Some((ConversionPattern::GToA, evidence)) => (1, 1, evidence),
     }
-    bytes
-}
-
-pub fn to_evidence(bytes: &[u8]) -> Vec<MethylationEvidence> {
-    let position = |b: &[u8]| MethylationEvidence {
-        informative: b[0] != 0,
-        unconverted_count: to_u32(&b[1..5]),
-        converted_count: to_u32(&b[5..9]),
-    };
-    bytes.chunks_exact(EVIDENCE_BYTES).map(position).collect()
-}
-
-/// The reads as a run of fields 30. A record has no position past the limit, so that bases past it count nowhere, and a field,
-/// whose length has 16 bits, need not hold them.
-pub fn of_reads(reads: &[SourceRead]) -> Vec<u8> {
-    let mut bytes = Vec::new();
-    for &(flags, bases) in reads {
-        let bases = &bases[..bases.len().min(MAX_POSITIONS)];
-        bytes.push(0x30);
-        bytes.extend((bases.len() as u16 + 2).to_le_bytes());
-        bytes.extend(flags.to_le_bytes());
-        bytes.extend(bases);
-    }
-    bytes
 }
