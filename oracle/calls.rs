@@ -4,6 +4,7 @@ use super::*;
 use crate::MethylationMode;
 use crate::caller::*;
 use crate::methylation::*;
+use crate::order::first;
 use crate::vanilla_caller::VanillaConsensusRead;
 use std::fmt::{Display, Write as _};
 use std::io::{Read, Write as _};
@@ -80,11 +81,6 @@ fn yes(answer: bool) -> Said {
 
 fn table(row: u8) -> Said {
     Said { by_rust: false, text: format!(" refused {row}") }
-}
-
-// The first row whose condition is met.
-fn first(rows: &[(u8, bool)]) -> Option<u8> {
-    rows.iter().find(|(_, met)| *met).map(|(row, _)| *row)
 }
 
 // The first of rows 7 and 8 that is met, by the lengths of the arrays of each strand and record.

@@ -88,6 +88,10 @@ mod methylation {
     items!("methylation.rs");
 }
 
+mod order {
+    include!("order.rs");
+}
+
 mod vanilla_caller {
     use crate::fgumi_sam::SimplifiedCigar;
     use crate::phred::{MIN_PHRED, NO_CALL_BASE_LOWER};

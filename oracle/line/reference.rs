@@ -52,10 +52,12 @@ fn answered(bytes: &[u8]) -> Result<String, u8> {
         return Err(13);
     }
     let molecule = molecule(bytes);
-    let thresholds = min_reads(&molecule.thresholds)?;
-    if let Some(row) = table::duplex_consensus(&molecule.case) {
+    let thresholds = min_reads(&molecule.thresholds);
+    let rows = [thresholds.err(), table::duplex_consensus(&molecule.case)];
+    if let Some(row) = table::first(&rows.map(|row| (row.unwrap_or(0), true))) {
         return Err(row);
     }
+    let thresholds = thresholds?;
     let second = match rust::duplex_consensus(&molecule.case) {
         None => "none\n".to_string(),
         Some(record) => line(&record, rust::has_minimum_reads(&record, thresholds)),

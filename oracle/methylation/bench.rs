@@ -6,6 +6,7 @@ use super::inputs::{Case, Evidence};
 use super::timing::medians;
 use super::{ours, rust};
 use crate::methylation::{self, MethylationAnnotation};
+use gedrashiw::methylation::build_mm_ml_tags_into;
 use std::hint::black_box;
 
 // So many records are taken in turn, so that no branch is learnt by heart.
@@ -89,7 +90,8 @@ fn one_strand(positions: usize) -> [f64; 2] {
         || {
             for record in &records {
                 let Case { bases, strands: [a, _], mode, .. } = black_box(&record.case);
-                black_box(ours::build_mm_ml_tags(bases, a.annotation, &a.marks, &a.unconverted, &a.converted, *mode, black_box(mm), black_box(ml)));
+                let (annotation, mode) = (ours::annotation(a), ours::mode(*mode));
+                let _ = black_box(build_mm_ml_tags_into(bases, &annotation, mode, black_box(mm), black_box(ml)));
             }
         },
         || {

@@ -1,8 +1,14 @@
 // Each call: what refuses it by document 01's table, what the Rust makes of it, and what ours leaves.
 use super::inputs::{Case, Evidence, Simplex};
-use super::ours::{self, Reply, TagsReply};
+use super::ours;
 use super::rust;
 use super::table::first;
+use gedrashiw::duplex_caller::methylation_strand_bases_into;
+use gedrashiw::methylation::{
+    CountsOut, DuplexTagLengths, DuplexTagsOut, TagLengths, annotate_simplex_methylation_into, build_mm_ml_tags_into,
+    build_mm_tag_no_ml_into, duplex_methylation_tags_into, gate_to_informative_into, restore_unconverted_bases, summed_counts_into,
+};
+use gedrashiw::{Refusal, SourceReads};
 
 #[derive(Clone, Copy, Debug, Default, PartialEq)]
 pub enum Answer {
@@ -18,7 +24,7 @@ pub enum Answer {
 pub struct Left {
     pub answer: Answer,
     pub bytes: Vec<Vec<u8>>,
-    pub shorts: Vec<Vec<u16>>,
+    pub shorts: Vec<Vec<i16>>,
     pub words: Vec<Vec<u32>>,
 }
 
@@ -36,7 +42,7 @@ impl Left {
         Left {
             answer: self.answer,
             bytes: bytes.iter().enumerate().map(|(k, &n)| (0..n).map(|i| (i * 7 + k * 31 + 129) as u8).collect()).collect(),
-            shorts: shorts.iter().enumerate().map(|(k, &n)| (0..n).map(|i| (i * 13 + k * 97 + 40_000) as u16).collect()).collect(),
+            shorts: shorts.iter().enumerate().map(|(k, &n)| (0..n).map(|i| (i * 13 + k * 97 + 40_000) as i16).collect()).collect(),
             words: words.iter().enumerate().map(|(k, &n)| (0..n).map(|i| (i * 17 + k + 100_000) as u32).collect()).collect(),
         }
     }
@@ -54,7 +60,7 @@ impl Left {
 
     // The first place of each output that differs, or of which one side has none.
     pub fn differences(&self, other: &Left) -> Vec<String> {
-        fn wide<T: Copy + Into<u64>>(outputs: &[Vec<T>]) -> Vec<Vec<u64>> {
+        fn wide<T: Copy + Into<i64>>(outputs: &[Vec<T>]) -> Vec<Vec<i64>> {
             outputs.iter().map(|places| places.iter().map(|&place| place.into()).collect()).collect()
         }
         let all = |left: &Left| [wide(&left.bytes), wide(&left.shorts), wide(&left.words)].concat();
@@ -100,16 +106,13 @@ fn positions(n: usize) -> Answer {
     Answer::Written([n, 0, 0, 0, 0])
 }
 
-fn said(reply: Reply) -> Answer {
-    if reply.refused != 0 { Answer::Refused(reply.refused) } else { positions(reply.positions) }
+// What the library answers, as an answer here.
+fn said<T>(answered: Result<T, Refusal>, written: impl FnOnce(T) -> Answer) -> Answer {
+    answered.map_or_else(|refusal| Answer::Refused(refusal.number()), written)
 }
 
-fn said_tags(reply: TagsReply) -> Answer {
-    match reply {
-        TagsReply { refused: 0, kind: 0, .. } => Answer::NoTag,
-        TagsReply { refused: 0, mm, ml, .. } => Answer::Written([mm, ml, 0, 0, 0]),
-        TagsReply { refused, .. } => Answer::Refused(refused),
-    }
+fn said_tags(tags: Option<TagLengths>) -> Answer {
+    tags.map_or(Answer::NoTag, |TagLengths { mm, ml }| Answer::Written([mm, ml, 0, 0, 0]))
 }
 
 fn rows(all: &[usize], ragged: bool) -> Option<u8> {
@@ -159,7 +162,7 @@ impl Call {
         let n = case.bases.len();
         let a = &case.strands[0];
         let bytes = |answer: Answer, bytes: Vec<Vec<u8>>| Left { answer, bytes, ..Left::default() };
-        let shorts = |counts: Vec<u16>| Left { answer: positions(counts.len()), shorts: vec![counts], ..Left::default() };
+        let shorts = |counts: Vec<i16>| Left { answer: positions(counts.len()), shorts: vec![counts], ..Left::default() };
         let arrays = |(marks, words): rust::Arrays| Left {
             answer: positions(marks.len()),
             bytes: vec![marks],
@@ -211,35 +214,26 @@ impl Call {
 
     // Ours, on outputs that are filled already.
     pub fn by_ours(self, case: &Case, out: &mut Left) {
-        let Case { bases, strands: [a, b], mode, len } = case;
+        let Case { bases, strands: [a, b], len, .. } = case;
+        let mode = ours::mode(case.mode);
+        let n = bases.len();
         out.answer = match self {
             Call::DuplexTags => ours_duplex_tags(case, out),
             Call::MmMl => {
                 let [mm, ml] = &mut out.bytes[..] else { unreachable!() };
-                said_tags(ours::build_mm_ml_tags(bases, a.annotation, &a.marks, &a.unconverted, &a.converted, *mode, mm, ml))
+                said(build_mm_ml_tags_into(bases, &ours::annotation(a), mode, mm, ml), said_tags)
             }
-            Call::Mm => said_tags(ours::build_mm_tag_no_ml(
-                bases,
-                a.annotation,
-                &a.marks,
-                &a.unconverted,
-                &a.converted,
-                *mode,
-                &mut out.bytes[0],
-            )),
-            Call::Restore => said(ours::restore_unconverted_bases(&mut out.bytes[0], a.annotation, &a.marks)),
-            Call::StrandBases => said(ours::methylation_strand_bases(bases, a.annotation, &a.marks, &mut out.bytes[0])),
-            Call::Gate => {
-                let [unconverted, converted] = &mut out.words[..] else { unreachable!() };
-                said(ours::gate_to_informative(&mut out.bytes[0], unconverted, converted))
+            Call::Mm => {
+                let mm = |mm: Option<usize>| said_tags(mm.map(|mm| TagLengths { mm, ml: 0 }));
+                said(build_mm_tag_no_ml_into(bases, &ours::annotation(a), mode, &mut out.bytes[0]), mm)
             }
-            Call::Truncate => {
-                let [unconverted, converted] = &mut out.words[..] else { unreachable!() };
-                said(ours::truncate(&a.marks, &a.unconverted, &a.converted, *len, &mut out.bytes[0], unconverted, converted))
-            }
-            Call::Unconverted => said(ours::unconverted_counts(&a.unconverted, &mut out.shorts[0])),
-            Call::Converted => said(ours::converted_counts(&a.converted, &mut out.shorts[0])),
-            Call::Summed => said(ours::summed_counts(bases.len(), &a.unconverted, &b.unconverted, &mut out.shorts[0])),
+            Call::Restore => said(restore_unconverted_bases(&mut out.bytes[0], &ours::annotation(a)), |()| positions(n)),
+            Call::StrandBases => said(methylation_strand_bases_into(&ours::strand(bases, a), &mut out.bytes[0]), positions),
+            Call::Gate => said(gate_to_informative_into(&mut ours::evidence(out)), positions),
+            Call::Truncate => said(ours::annotation(a).truncate_into(*len, &mut ours::evidence(out)), positions),
+            Call::Unconverted => said(ours::annotation(a).unconverted_counts_into(&mut out.shorts[0]), positions),
+            Call::Converted => said(ours::annotation(a).converted_counts_into(&mut out.shorts[0]), positions),
+            Call::Summed => said(summed_counts_into(n, &a.unconverted, &b.unconverted, &mut out.shorts[0]), positions),
         };
     }
 }
@@ -251,7 +245,7 @@ fn duplex_tags(case: &Case) -> Left {
     let mut of = |strand: &Evidence| {
         let tags = if strand.annotation != 0 { strands.next() } else { None };
         tags.map_or_else(Default::default, |tags| {
-            (tags.mm.unwrap_or_default().into_bytes(), rust::unsigned(&tags.unconverted), rust::unsigned(&tags.converted))
+            (tags.mm.unwrap_or_default().into_bytes(), tags.unconverted, tags.converted)
         })
     };
     let [a, b] = [of(&case.strands[0]), of(&case.strands[1])];
@@ -259,43 +253,30 @@ fn duplex_tags(case: &Case) -> Left {
     Left {
         answer: Answer::Written([made.seq.len(), a.0.len(), b.0.len(), mm.len(), ml.len()]),
         bytes: vec![made.seq, a.0, b.0, mm.into_bytes(), ml],
-        shorts: vec![a.1, a.2, b.1, b.2, rust::unsigned(&made.unconverted), rust::unsigned(&made.converted)],
+        shorts: vec![a.1, a.2, b.1, b.2, made.unconverted, made.converted],
         words: Vec::new(),
     }
 }
 
 #[inline]
 pub fn ours_duplex_tags(case: &Case, out: &mut Left) -> Answer {
-    let Case { bases, strands: [a, b], mode, .. } = case;
+    let Case { bases, strands, mode, .. } = case;
     let [seq, a_mm, b_mm, mm, ml] = &mut out.bytes[..] else { unreachable!() };
     let [au, ac, bu, bc, u, c] = &mut out.shorts[..] else { unreachable!() };
-    let reply = ours::duplex_methylation_tags(
-        bases,
-        a.annotation,
-        &a.marks,
-        &a.unconverted,
-        &a.converted,
-        b.annotation,
-        &b.marks,
-        &b.unconverted,
-        &b.converted,
-        *mode,
+    let mut out = DuplexTagsOut {
         seq,
         a_mm,
         b_mm,
         mm,
         ml,
-        au,
-        ac,
-        bu,
-        bc,
-        u,
-        c,
-    );
-    if reply.refused != 0 {
-        return Answer::Refused(reply.refused);
-    }
-    Answer::Written([reply.positions, reply.a_mm, reply.b_mm, reply.mm, reply.ml])
+        a: CountsOut { unconverted: au, converted: ac },
+        b: CountsOut { unconverted: bu, converted: bc },
+        both: CountsOut { unconverted: u, converted: c },
+    };
+    let annotations = strands.each_ref().map(|strand| (strand.annotation != 0).then(|| ours::annotation(strand)));
+    let [a, b] = annotations.each_ref().map(Option::as_ref);
+    let written = |n: DuplexTagLengths| Answer::Written([n.positions, n.a_mm, n.b_mm, n.mm, n.ml]);
+    said(duplex_methylation_tags_into(bases, a, b, ours::mode(*mode), &mut out), written)
 }
 
 // annotate_simplex_methylation.
@@ -320,19 +301,10 @@ impl Simplex {
 
     pub fn by_ours(&self, out: &mut Left) {
         let Simplex { len, reads, bytes, reference, pattern, aligned, everywhere } = self;
-        let [unconverted, converted] = &mut out.words[..] else { unreachable!() };
-        let reply = ours::annotate_simplex_methylation(
-            *len,
-            reads,
-            bytes,
-            reference,
-            *pattern,
-            aligned,
-            *everywhere,
-            &mut out.bytes[0],
-            unconverted,
-            converted,
-        );
-        out.answer = said(reply);
+        let (lent, pattern) = (ours::reads(reads), ours::pattern(*pattern));
+        let reads = SourceReads { reads: &lent, bytes };
+        let evidence = &mut ours::evidence(out);
+        let annotated = annotate_simplex_methylation_into(*len, reads, reference, pattern, aligned, *everywhere, evidence);
+        out.answer = said(annotated, positions);
     }
 }

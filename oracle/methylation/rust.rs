@@ -88,21 +88,16 @@ pub fn truncate(strand: &Evidence, len: usize) -> Arrays {
     arrays(&annotation(strand).truncate(len))
 }
 
-// Counts of a tag are never below zero.
-pub fn unsigned(counts: &[i16]) -> Vec<u16> {
-    counts.iter().map(|&count| u16::try_from(count).unwrap()).collect()
+pub fn unconverted_counts(strand: &Evidence) -> Vec<i16> {
+    annotation_of(strand, strand.unconverted.len()).unconverted_counts()
 }
 
-pub fn unconverted_counts(strand: &Evidence) -> Vec<u16> {
-    unsigned(&annotation_of(strand, strand.unconverted.len()).unconverted_counts())
-}
-
-pub fn converted_counts(strand: &Evidence) -> Vec<u16> {
-    unsigned(&annotation_of(strand, strand.converted.len()).converted_counts())
+pub fn converted_counts(strand: &Evidence) -> Vec<i16> {
+    annotation_of(strand, strand.converted.len()).converted_counts()
 }
 
 // The counts of one kind, summed over so many positions: the Rust sums an annotation's evidence, here both kinds alike.
-pub fn summed_counts(positions: usize, [a, b]: [&[u32]; 2]) -> Vec<u16> {
+pub fn summed_counts(positions: usize, [a, b]: [&[u32]; 2]) -> Vec<i16> {
     let of = |counts: &[u32]| annotation(&Evidence {
         annotation: 1,
         marks: vec![0; counts.len()],
@@ -111,7 +106,7 @@ pub fn summed_counts(positions: usize, [a, b]: [&[u32]; 2]) -> Vec<u16> {
     });
     let (unconverted, converted) = methylation::summed_counts(&vec![b'N'; positions], &[&of(a), &of(b)]);
     assert_eq!(unconverted, converted);
-    unsigned(&unconverted)
+    unconverted
 }
 
 pub fn annotate_simplex_methylation(case: &Simplex) -> Arrays {
