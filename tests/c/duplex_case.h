@@ -1,6 +1,6 @@
 /* A case of the combination's entry: its bytes, what is expected, the call and the comparison. Every array lies against unreadable
- * pages (guarded.h): once it ends where a page ends, once it starts where one starts. After every call each output is compared
- * whole, its places past the record too, and each input with what it was. */
+ * pages (guarded.h): once it ends where a page ends, once it starts where one starts, and once a null pointer stands for each empty
+ * one. After every call each output is compared whole, its places past the record too, and each input with what it was. */
 #ifndef DUPLEX_CASE_H
 #define DUPLEX_CASE_H
 
@@ -11,20 +11,20 @@ static struct block inputs[DUPLEX_INPUTS], outputs[OUTPUTS];
 
 static const char *const output_names[OUTPUTS] = {"bases_out", "quals_out", "errors_out", "a_evidence_out", "b_evidence_out"};
 
-/* Passes g with every array at one side of its room; compares the answer, all of the outputs, and the inputs. */
-static void run_at(const char *name, const struct duplex_given *g, const struct duplex_wanted *w, int at_end)
+/* Passes g with every array in its place; compares the answer, all of the outputs, and the inputs. */
+static void run_at(const char *name, const struct duplex_given *g, const struct duplex_wanted *w, int place)
 {
     struct duplex_given placed = *g;
     uint8_t *out[OUTPUTS];
     for (int k = 0; k < DUPLEX_INPUTS; k++) {
         struct array *in = duplex_input(&placed, k);
-        block_input(&inputs[k], in->at, in->len, at_end);
-        in->at = inputs[k].at;
+        block_input(&inputs[k], in->at, in->len, place);
+        in->at = block_passed(&inputs[k], place);
     }
     for (int k = 0; k < OUTPUTS; k++) {
-        block_output(&outputs[k], g->room[k], at_end);
+        block_output(&outputs[k], g->room[k], place);
         memcpy(block_noted(&outputs[k]), w->out[k], w->written[k]);
-        out[k] = outputs[k].at;
+        out[k] = block_passed(&outputs[k], place);
     }
 
     struct gedrashiw_duplex_record r = duplex_call(&placed, out);
@@ -49,8 +49,8 @@ static void run_at(const char *name, const struct duplex_given *g, const struct 
 
 static void run(const char *name, const struct duplex_given *g, const struct duplex_wanted *w)
 {
-    run_at(name, g, w, 1);
-    run_at(name, g, w, 0);
+    for (int place = 0; place < PLACES; place++)
+        run_at(name, g, w, place);
 }
 
 /* How often each answer was expected: kinds of records, and refusals. */

@@ -51,7 +51,11 @@ static inline struct block block_new(size_t most)
     return b;
 }
 
-/* The array's place: ending at the end of the room, or starting at its start. The rest of its pages has a pattern. */
+/* Where arrays lie: each ends where a page ends, or starts where one starts; or the first, and a null pointer stands for each that is
+ * empty. */
+enum { AT_START, AT_END, EMPTY_IS_NULL, PLACES };
+
+/* The array's place: at the start of the room, or else ending at its end. The rest of its pages has a pattern. */
 static inline void block_place(struct block *b, size_t len, int at_end)
 {
     size_t page = (size_t)sysconf(_SC_PAGESIZE);
@@ -99,6 +103,12 @@ static inline void block_output(struct block *b, size_t len, int at_end)
     for (size_t i = 0; i < len; i++)
         b->at[i] = (uint8_t)(0xa0 + i * 7 + i / 256);
     block_note(b);
+}
+
+/* What is passed for it. */
+static inline uint8_t *block_passed(const struct block *b, int place)
+{
+    return place == EMPTY_IS_NULL && b->len == 0 ? NULL : b->at;
 }
 
 static uint32_t seed = 20240607;

@@ -1,6 +1,6 @@
-/* Calls gedrashiw_metrics as a C program does. Every array lies against unreadable pages (guarded.h): once it ends where a page
- * ends, once it starts where one starts. The whole output is compared, its bytes past the written ones too. Expected values are
- * those of the Rust in the fixed list, or written out here, or reference.h's. */
+/* Calls gedrashiw_metrics as a C program does. Every array lies against unreadable pages (guarded.h): once it ends where a page ends,
+ * once it starts where one starts, and once a null pointer stands for each empty one. The whole output is compared, its bytes past the
+ * written ones too. Expected values are those of the Rust in the fixed list, or written out here, or reference.h's. */
 #define _DEFAULT_SOURCE
 #include "guarded.h"
 #include "reference.h"
@@ -19,19 +19,19 @@ static void set(int k, size_t i, uint32_t n)
     put_number(store[k] + 2 * i, n, 2);
 }
 
-/* Passes g with every array at one side of its room, and compares the answer, all of the output, and the inputs. */
-static void run_at(const char *name, const struct metrics_given *g, const struct metrics_wanted *w, int at_end)
+/* Passes g with every array in its place, and compares the answer, all of the output, and the inputs. */
+static void run_at(const char *name, const struct metrics_given *g, const struct metrics_wanted *w, int place)
 {
     struct metrics_given placed = *g;
     for (int k = 0; k < METRICS_INPUTS; k++) {
-        block_input(&blocks[k], g->in[k].at, g->in[k].len, at_end);
-        placed.in[k].at = blocks[k].at;
+        block_input(&blocks[k], g->in[k].at, g->in[k].len, place);
+        placed.in[k].at = block_passed(&blocks[k], place);
     }
-    block_output(&output, g->room, at_end);
+    block_output(&output, g->room, place);
     for (int k = 0; w->refused == 0 && k < 10; k++)
         put_number(block_noted(&output) + 4 * k, w->words[k], 4);
 
-    uint8_t answer = metrics_call(&placed, output.at);
+    uint8_t answer = metrics_call(&placed, block_passed(&output, place));
 
     checks++;
     if (answer != w->refused) {
@@ -48,8 +48,8 @@ static void run_at(const char *name, const struct metrics_given *g, const struct
 
 static void run(const char *name, const struct metrics_given *g, const struct metrics_wanted *w)
 {
-    run_at(name, g, w, 1);
-    run_at(name, g, w, 0);
+    for (int place = 0; place < PLACES; place++)
+        run_at(name, g, w, place);
 }
 
 /* ---- cases */
