@@ -114,8 +114,10 @@ mod duplex_caller {
 
     // Below this module, so that it sees what is private here.
     pub mod program {
-        #[cfg(not(any(combine, methylation, line)))]
+        #[cfg(not(any(calls, combine, methylation, line)))]
         include!("calls.rs");
+        #[cfg(calls)]
+        include!("calls/program.rs");
         #[cfg(combine)]
         include!("combine/program.rs");
         #[cfg(line)]

@@ -25,6 +25,16 @@ def library():
     return TOP / "target/staticlib"
 
 
+def measured(folder, ours=None):
+    """Runs the program of a folder that measures both sides; the exit status."""
+    if not there():
+        return 0
+    WORK.mkdir(parents=True, exist_ok=True)
+    fast = ["-C", "opt-level=3", "-C", "codegen-units=1"]
+    program = build(f"{folder}_bench", "--cfg", folder, *crate(ours or library(), *fast), *fast)
+    return subprocess.run([program, "bench"]).returncode
+
+
 def main(about, folder, count, of_what):
     """Compares with the program of a folder, or measures; the exit status."""
     parser = argparse.ArgumentParser(description=about)
@@ -38,9 +48,7 @@ def main(about, folder, count, of_what):
     WORK.mkdir(parents=True, exist_ok=True)
     ours = (options.library or library()).resolve()
     if options.bench:
-        fast = ["-C", "opt-level=3", "-C", "codegen-units=1"]
-        words = [build(f"{folder}_bench", "--cfg", folder, *crate(ours, *fast), *fast), "bench"]
-    else:
-        checked = ["-O", "-C", "overflow-checks=on"]
-        words = [build(folder, "--cfg", folder, *crate(ours, *checked), *checked), "compare", str(options.seed), str(options.count)]
-    return subprocess.run(words).returncode
+        return measured(folder, ours)
+    checked = ["-O", "-C", "overflow-checks=on"]
+    program = build(folder, "--cfg", folder, *crate(ours, *checked), *checked)
+    return subprocess.run([program, "compare", str(options.seed), str(options.count)]).returncode

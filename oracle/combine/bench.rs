@@ -6,6 +6,8 @@ use super::draw::Draw;
 use super::timing::medians;
 use super::{ours, rust};
 use crate::vanilla_caller::{SourceRead, VanillaConsensusRead};
+use gedrashiw::bytes::{CountBytes, RecordBytesOut, StrandBytes, duplex_consensus_into};
+use gedrashiw::methylation::ConversionPattern;
 use std::hint::black_box;
 
 // So many molecules are taken in turn, so that no branch is learnt by heart.
@@ -99,17 +101,92 @@ fn measure(kind: Kind) -> [f64; 2] {
     times.map(|time| time / MOLECULES as f64)
 }
 
+const KINDS: [(&str, Option<usize>, bool); 6] = [
+    ("no list, no annotation", None, false),
+    ("20 reads, no annotation", Some(20), false),
+    ("200 reads, no annotation", Some(200), false),
+    ("no list, annotated", None, true),
+    ("20 reads, annotated", Some(20), true),
+    ("200 reads, annotated", Some(200), true),
+];
+
 fn ratios() {
     println!("{:44} {:>10} {:>10} {:>7}", "a record of two strands", "ours, ns", "Rust, ns", "ratio");
-    for (name, reads, annotated) in [
-        ("no list, no annotation", None, false),
-        ("20 reads, no annotation", Some(20), false),
-        ("no list, annotated", None, true),
-        ("20 reads, annotated", Some(20), true),
-    ] {
+    for (name, reads, annotated) in KINDS {
         for positions in [150, 300] {
             let [ours, rust] = measure(Kind { positions, reads, annotated });
             println!("{:44} {ours:10.0} {rust:10.0} {:7.2}", format!("{positions} positions, {name}"), rust / ours);
+        }
+    }
+}
+
+// A molecule as bytes: of each strand depths, errors and evidence, and a run of reads; and outputs.
+struct AsBytes {
+    depths: [Vec<u8>; 2],
+    errors: [Vec<u8>; 2],
+    evidence: [Vec<u8>; 2],
+    run: Vec<u8>,
+}
+
+fn as_bytes(case: &Case) -> AsBytes {
+    let numbers = |numbers: &[u16]| numbers.iter().flat_map(|n| n.to_le_bytes()).collect::<Vec<u8>>();
+    let evidence = |s: &Strand| {
+        let at = |i: usize| [&[s.marks[i]][..], &s.unconverted[i].to_le_bytes(), &s.converted[i].to_le_bytes()].concat();
+        (0..s.marks.len()).flat_map(at).collect::<Vec<u8>>()
+    };
+    let read = |r: &Read| {
+        let length = (r.length as u16 + 2).to_le_bytes();
+        [&[0x30][..], &length, &r.flags.to_le_bytes(), &case.bytes[r.offset..r.offset + r.length]].concat()
+    };
+    let strands = [&case.a, &case.b];
+    AsBytes {
+        depths: strands.map(|s| numbers(&s.depths)),
+        errors: strands.map(|s| numbers(&s.errors)),
+        evidence: strands.map(evidence),
+        run: case.reads.iter().flat_map(read).collect(),
+    }
+}
+
+// The call from bytes to bytes, and the call over numbers.
+fn measure_bytes(kind: Kind) -> [f64; 2] {
+    let molecules = prepared(kind);
+    let bytes: Vec<AsBytes> = molecules.iter().map(|molecule| as_bytes(&molecule.case)).collect();
+    let n = kind.positions;
+    let (mut bases, mut quals, mut errors, mut first, mut second) = (vec![0; n], vec![0; n], vec![0; 2 * n], vec![0; 9 * n], vec![0; 9 * n]);
+    let mut out = RecordBytesOut {
+        bases: &mut bases,
+        quals: &mut quals,
+        errors: &mut errors,
+        first_evidence: &mut first,
+        second_evidence: &mut second,
+    };
+    let mut numbers = Outputs::filled(&[n; 9]);
+    let patterns = [ConversionPattern::CToT, ConversionPattern::GToA];
+    let times = medians(
+        || {
+            for (molecule, bytes) in molecules.iter().zip(&bytes) {
+                let (case, bytes) = black_box((&molecule.case, bytes));
+                let [a, b] = [(&case.a, 0), (&case.b, 1)].map(|(s, i)| StrandBytes {
+                    bases: &s.bases,
+                    quals: &s.quals,
+                    counts: CountBytes { depths: &bytes.depths[i], errors: &bytes.errors[i] },
+                    annotation: kind.annotated.then_some((patterns[i], &bytes.evidence[i][..])),
+                });
+                let list = kind.reads.is_some().then_some(&bytes.run[..]);
+                let _ = black_box(duplex_consensus_into(Some(&a), Some(&b), list, black_box(&mut out)));
+            }
+        },
+        || run_ours(&molecules, &mut numbers),
+    );
+    times.map(|time| time / MOLECULES as f64)
+}
+
+fn from_bytes() {
+    println!("{:44} {:>10} {:>10} {:>7}", "the same from bytes to bytes", "bytes, ns", "numbers, ns", "times");
+    for (name, reads, annotated) in KINDS {
+        for positions in [150, 300] {
+            let [bytes, numbers] = measure_bytes(Kind { positions, reads, annotated });
+            println!("{:44} {bytes:10.0} {numbers:10.0} {:7.2}", format!("{positions} positions, {name}"), bytes / numbers);
         }
     }
 }
@@ -132,6 +209,7 @@ fn growth() {
 
 pub fn main() -> bool {
     ratios();
+    from_bytes();
     growth();
     true
 }
