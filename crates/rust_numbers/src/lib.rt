@@ -1,6 +1,5 @@
-// Entry points over numbers: the calls of one read, one base, one rate, one name and the thresholds, with answers and choices as
-// numbers. What a call answers is the library's. Uses refusals, phred, rates, caller, methylation, replies, duplex_min_reads,
-// duplex_reads, duplex_partition and duplex_molecule.
+// Entry points over numbers: the calls of one quality, depth, rate, name, pattern, flag and base, with answers and choices as numbers.
+// What a call answers is the library's. Uses refusals, phred, rates, caller, methylation, replies, duplex_reads and duplex_molecule.
 ghost use mathlib.Core.Path.{_≡_};
 ghost use mathlib.Core.Bool.{cond};
 ghost use lib.ListN.{length};
@@ -14,34 +13,21 @@ ghost use Rattle.caller.specs.declared.ReadName.the-variants.{Refused, Written}
 ghost use Rattle.methylation.specs.Methylation.{isEnabled, patternOfFlags, patternBases, isCpgContext};
 ghost use Rattle.replies.specs.Choices.{yes, patternOf, wrongPattern, modeOf, wrongMode};
 ghost use Rattle.replies.specs.Replies.{noNumber, numbered};
-ghost use Rattle.duplex_min_reads.specs.MinReads.{validated, minYxReads, singleStrand};
-ghost use Rattle.duplex_reads.specs.Reads.{isPaired, isPairedR1, isPairedR2, writtenFlags};
-ghost use Rattle.duplex_partition.specs.Partition.{strandOf};
+ghost use Rattle.duplex_reads.specs.Reads.{isPaired, isPairedR1, isPairedR2};
 ghost use Rattle.duplex_molecule.specs.Molecule.{isError, moleculeCall};
-ghost use Rattle.rust_numbers.specs.Numbers.{bit, patternNumber, strandNumber, readTypeOf, wrongReadType};
-ghost use Rattle.rust_numbers.specs.Replies.{rateReply, nameReply, noBases, basesReply, thresholdsReply, yxReply, singleReply, callReply};
+ghost use Rattle.rust_numbers.specs.Replies.{bit, patternNumber, rateReply, nameReply, noBases, basesReply, callReply};
 use caller::ErrorRate;
 use caller::ReadName;
 use caller::calculate_error_rate;
 use caller::clamp_combined_error_to_fgbio_short;
 use caller::clamp_per_base_to_fgbio_short;
 use caller::write_consensus_read_name;
-use duplex_min_reads::SingleStrand;
-use duplex_min_reads::Validated;
-use duplex_min_reads::YxReads;
-use duplex_min_reads::allows_single_strand_consensus;
-use duplex_min_reads::min_yx_reads_for;
-use duplex_min_reads::validate_min_reads;
 use duplex_molecule::MoleculeCall;
 use duplex_molecule::is_error;
 use duplex_molecule::molecule_call;
-use duplex_partition::MiStrand;
-use duplex_partition::extract_strand_from_mi_bytes;
-use duplex_reads::ReadType;
 use duplex_reads::is_paired;
 use duplex_reads::is_paired_r1;
 use duplex_reads::is_paired_r2;
-use duplex_reads::written_flags;
 use methylation::ConversionPattern;
 use methylation::is_cpg_context;
 use phred::cap_quality;
@@ -53,15 +39,6 @@ use replies::mode_of;
 use replies::pattern_of;
 use replies::wrong_mode;
 use replies::wrong_pattern;
-
-// `refused` is the refusal's number; where it is 0, the three thresholds.
-#[repr(C)]
-pub struct Thresholds {
-    pub refused: u8,
-    pub total: u32,
-    pub xy: u32,
-    pub yx: u32,
-}
 
 // `refused` is the refusal's number; where it is 0, a pattern's letters.
 #[repr(C)]
@@ -226,118 +203,6 @@ pub extern "C" fn gedrashiw_is_cpg_context(ref_seq: &[u8], pos: usize, is_top_st
     bit_of(is_cpg_context(ref_seq, pos, is_top_strand != 0))
 }
 
-fn thresholds_reply(answer: Validated) -> Thresholds
-    ensures { λ r. ⌜ r ≡ thresholdsReply answer ⌝ }
-{
-    match answer {
-        Validated::Refused(number) => Thresholds {
-            refused: number,
-            total: 0,
-            xy: 0,
-            yx: 0,
-        },
-        Validated::Thresholds(t) => Thresholds {
-            refused: 0,
-            total: t.total,
-            xy: t.xy,
-            yx: t.yx,
-        },
-    }
-}
-
-#[no_mangle]
-pub extern "C" fn gedrashiw_validate_min_reads(min_reads: &[u32]) -> Thresholds
-    ensures { λ r. ⌜ r ≡ thresholdsReply (validated (now («min_reads» .entry))) ⌝ }
-{
-    thresholds_reply(validate_min_reads(min_reads))
-}
-
-fn yx_reply(answer: YxReads) -> Number
-    ensures { λ r. ⌜ r ≡ yxReply answer ⌝ }
-{
-    match answer {
-        YxReads::Refused(number) => Number {
-            refused: number,
-            number: 0,
-        },
-        YxReads::AtLeast(yx) => Number {
-            refused: 0,
-            number: yx,
-        },
-    }
-}
-
-#[no_mangle]
-pub extern "C" fn gedrashiw_min_yx_reads_for(min_reads: &[u32]) -> Number
-    ensures { λ r. ⌜ r ≡ yxReply (minYxReads (now («min_reads» .entry))) ⌝ }
-{
-    yx_reply(min_yx_reads_for(min_reads))
-}
-
-fn single_reply(answer: SingleStrand) -> Number
-    ensures { λ r. ⌜ r ≡ singleReply answer ⌝ }
-{
-    match answer {
-        SingleStrand::Refused(number) => Number {
-            refused: number,
-            number: 0,
-        },
-        SingleStrand::Allowed => Number {
-            refused: 0,
-            number: 1,
-        },
-        SingleStrand::NotAllowed => Number {
-            refused: 0,
-            number: 0,
-        },
-    }
-}
-
-// 1: allowed; 0: not.
-#[no_mangle]
-pub extern "C" fn gedrashiw_allows_single_strand_consensus(min_reads: &[u32]) -> Number
-    ensures { λ r. ⌜ r ≡ singleReply (singleStrand (now («min_reads» .entry))) ⌝ }
-{
-    single_reply(allows_single_strand_consensus(min_reads))
-}
-
-// Whether a number stands for no read type.
-fn wrong_read_type(number: u8) -> bool
-    ensures { λ r. ⌜ r ≡ wrongReadType number ⌝ }
-{
-    2 < number
-}
-
-// 0: a fragment; 1: R1; any other number: R2.
-fn read_type_of(number: u8) -> ReadType
-    ensures { λ r. ⌜ r ≡ readTypeOf number ⌝ }
-{
-    if number == 0 {
-        return ReadType::Fragment;
-    }
-    if number == 1 {
-        return ReadType::R1;
-    }
-    ReadType::R2
-}
-
-// The flags of a read type. Refuses by 13.
-#[no_mangle]
-pub extern "C" fn gedrashiw_written_flags(read_type: u8) -> Number
-    ensures { λ r. ⌜ r ≡ cond (wrongReadType «read_type») (noNumber 13) (numbered (writtenFlags (readTypeOf «read_type»))) ⌝ }
-{
-    if wrong_read_type(read_type) {
-        return Number {
-            refused: BROKEN,
-            number: 0,
-        };
-    }
-    Number {
-        refused: 0,
-        number: written_flags(read_type_of(read_type)) as u32,
-    }
-}
-
 #[no_mangle]
 pub extern "C" fn gedrashiw_is_paired(flags: u16) -> u8
     ensures { λ r. ⌜ r ≡ bit (isPaired flags) ⌝ }
@@ -357,18 +222,6 @@ pub extern "C" fn gedrashiw_is_paired_r2(flags: u16) -> u8
     ensures { λ r. ⌜ r ≡ bit (isPairedR2 flags) ⌝ }
 {
     bit_of(is_paired_r2(flags))
-}
-
-// 0 where no strand is named, 1 for A, 2 for B.
-#[no_mangle]
-pub extern "C" fn gedrashiw_extract_strand_from_mi_bytes(mi_bytes: &[u8]) -> u8
-    ensures { λ r. ⌜ r ≡ strandNumber (strandOf (now («mi_bytes» .entry))) ⌝ }
-{
-    match extract_strand_from_mi_bytes(mi_bytes) {
-        MiStrand::A => 1,
-        MiStrand::B => 2,
-        MiStrand::Unnamed => 0,
-    }
 }
 
 #[no_mangle]
