@@ -1,3 +1,4 @@
+pub mod Back
 pub mod Choices
 pub mod ReadBack
 pub mod Replies
