@@ -1,4 +1,3 @@
-pub mod Back
 pub mod Choices
 pub mod ReadBack
 pub mod Replies

@@ -1,0 +1,11 @@
+-- The claims of `specs/ReadBack.antt`. Assumes nothing.
+use mathlib.Core.Path.{refl}
+use Rattle.rust_metrics.specs.ReadBack.{ReadBack}
+
+pub read-back : ReadBack
+read-back = record {
+  depths = record { refusals = λ n. refl; passes = λ x. refl; answers = λ x. refl };
+  range = record { refusals = λ n. refl; passes = λ x. refl; answers = λ x. refl };
+  figures = record { refusals = λ n. refl; passes = λ x. refl; answers = λ x. refl };
+  metrics = record { refusals = λ n. refl; passes = λ x. refl; answers = λ x. refl };
+}
