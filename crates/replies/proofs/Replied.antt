@@ -3,7 +3,7 @@
 --     passed-on       each stands for something
 use mathlib.Core.Path.{_≡_, refl, sym, _∙_}
 use mathlib.Core.Bool.{Bool, true, false, true≢false}
-use Rattle.replies.specs.Replies.{RepliedAs, TurnedDown, PassedOn}
+use Rattle.replies.specs.Replies.{RepliedAs}
 
 module _ {Answer Numbers Outputs : Type 0} {wrong : Bool} {broken : Numbers} {reply : Answer → Numbers} {As : Outputs → Outputs → Answer → Type 0} {before : Outputs} where
   pub turned-down : {r : Numbers} → wrong ≡ true → r ≡ broken → RepliedAs wrong broken reply As before before r

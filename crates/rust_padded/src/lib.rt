@@ -1,19 +1,21 @@
-// Entry points over numbers as they are: the padding of a strand. Uses refusals, methylation, replies and vanilla_padded.
+// Entry points over numbers as they are: the padding of a strand. Uses refusals, dna, phred, methylation, replies and
+// vanilla_padded.
 ghost use mathlib.Core.Path.{_≡_};
 ghost use Rattle.replies.specs.Choices.{yes, annotationOf, wrongAnnotation};
 ghost use Rattle.replies.specs.Replies.{noNumber, RepliedAs};
 ghost use Rattle.vanilla_caller.specs.Strand.{arrays};
 ghost use Rattle.vanilla_padded.specs.Padding.{padding, defaultPadding, PaddedAs};
 ghost use Rattle.rust_padded.specs.Answers.{patternNumber, annotationNumber, paddedNumber};
+use dna::NO_CALL_BASE_LOWER;
 use methylation::Annotation;
 use methylation::ConversionPattern;
+use phred::MIN_PHRED;
 use refusals::BROKEN;
 use replies::Number;
 use replies::annotation_of;
 use replies::wrong_annotation;
 use vanilla_padded::PaddedStrand;
 use vanilla_padded::padded;
-use vanilla_padded::padded_default;
 
 fn pattern_number(pattern: ConversionPattern) -> u32
     ensures { λ r. ⌜ r ≡ patternNumber pattern ⌝ }
@@ -134,20 +136,19 @@ pub extern "C" fn gedrashiw_padded_default(
         (arrays (now («bases_out» .exit)) (now («quals_out» .exit)) (now («depths_out» .exit)) (now («errors_out» .exit)) (now («marks_out» .exit)) (now («unconverted_out» .exit)) (now («converted_out» .exit)))
         r ⌝ }
 {
-    if wrong_annotation(annotation) {
-        return padded_number(PaddedStrand::Refused(BROKEN));
-    }
-    padded_number(padded_default(
+    gedrashiw_padded(
         bases,
         quals,
         depths,
         errors,
-        annotation_of(annotation),
+        annotation,
         marks,
         unconverted,
         converted,
         new_length,
-        left != 0,
+        left,
+        NO_CALL_BASE_LOWER,
+        MIN_PHRED,
         bases_out,
         quals_out,
         depths_out,
@@ -155,5 +156,5 @@ pub extern "C" fn gedrashiw_padded_default(
         marks_out,
         unconverted_out,
         converted_out,
-    ))
+    )
 }

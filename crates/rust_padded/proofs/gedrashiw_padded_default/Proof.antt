@@ -1,32 +1,20 @@
--- `rust_padded::gedrashiw_padded_default` meets its contract: a number that stands for nothing is turned down, all else is handed on. Assumes nothing.
-use mathlib.Core.Path.{sym, _∙_}
-use Rattle.replies.proofs.Replied.{turned-down}
-use Rattle.rust_padded.proofs.Replied.{padded-replied}
+-- `rust_padded::gedrashiw_padded_default` meets its contract: the entry above, with the base n and the quality 2. Assumes nothing.
 use Rattle.rust_padded.proofs.gedrashiw_padded_default.Statement.{statement}
 use Rattle.rust_padded.proofs.gedrashiw_padded_default.Tie as tie
 
 returns : tie.Need-returns
-returns c = turned-down (sym (c .before .before .wrong-annotation .ensures) ∙ c .before .if1 .taken) (c .padded-number .ensures)
-
-returns-2 : tie.Need-returns-2
-returns-2 c =
-    let called = c .before .before .before .before .before .before .before .before .before .before .before .before .before .before .before in
-    let told = called .before .before .before .before .before .before .before .before in
-    let passed = told .before in
-    padded-replied (passed .before .wrong-annotation .ensures) (passed .if1 .left) (told .annotation-of .ensures) (called .padded-default .ensures) (c .padded-number2 .ensures)
+returns c = c .before .before .before .before .before .before .before .before .before .before .before .before .before .before .gedrashiw-padded .ensures
 
 pub gedrashiw-padded-default-spec : {M : Type 1} → statement M
 gedrashiw-padded-default-spec =
     tie.close
     (tie.spec
-    (λ c κs. tt) (λ c κs. tt)
-    returns
-    (λ c κs. tt) (λ c κs. tt) (λ c κs. tt)
-    (λ c. c .before .before .before .before .before .before .before .before .before .before .before .before .before .before .bases-out .given)
-    (λ c. c .before .before .before .before .before .before .before .before .before .before .before .before .quals-out .given)
-    (λ c. c .before .before .before .before .before .before .before .before .before .before .depths-out .given)
-    (λ c. c .before .before .before .before .before .before .before .before .errors-out .given)
-    (λ c. c .before .before .before .before .before .before .marks-out .given)
-    (λ c. c .before .before .before .before .unconverted-out .given)
-    (λ c. c .before .before .converted-out .given)
-    returns-2)
+    (λ c κs. tt)
+    (λ c. c .before .before .before .before .before .before .before .before .before .before .before .before .before .bases-out .given)
+    (λ c. c .before .before .before .before .before .before .before .before .before .before .before .quals-out .given)
+    (λ c. c .before .before .before .before .before .before .before .before .before .depths-out .given)
+    (λ c. c .before .before .before .before .before .before .before .errors-out .given)
+    (λ c. c .before .before .before .before .before .marks-out .given)
+    (λ c. c .before .before .before .unconverted-out .given)
+    (λ c. c .before .converted-out .given)
+    returns)
