@@ -9,18 +9,18 @@ use Rattle.refusals.proofs.Refusal.{passed}
 use Rattle.refusals.proofs.Condition.{not-too-short}
 use Rattle.simplex_methylation.specs.Simplex.{simplexFaults}
 
-module _ (n reads : ℕ) (leaving : Bool) (marks unconverted converted : ℕ) where
+module _ (wrong : Bool) (n reads : ℕ) (leaving : Bool) (marks unconverted converted : ℕ) where
   pub record Room : Type 0 where
     pub positions : n ≤ 1024
     pub few : reads ≤ 1024
     pub inside : leaving ≡ false
     pub outs : (n ≤ marks) × (n ≤ unconverted) × (n ≤ converted)
 
-  pub room : {number : ℕ} → number ≡ refusal (simplexFaults n reads leaving (marks ∷ unconverted ∷ converted ∷ [])) → number ≡ 0 → Room
+  pub room : {number : ℕ} → number ≡ refusal (simplexFaults wrong n reads leaving (marks ∷ unconverted ∷ converted ∷ [])) → number ≡ 0 → Room
   unfolding simplexFaults
   room e z =
       let outs = marks ∷ unconverted ∷ converted ∷ [] in
-      let faults = simplexFaults n reads leaving outs in
+      let faults = simplexFaults wrong n reads leaving outs in
       let wide = not-too-short n outs (passed OutputTooShort faults e z .0) in
       record {
         positions = ltb-false 1024 n (passed TooLong faults e z .0);

@@ -19,15 +19,15 @@ use Rattle.lists.specs.Output.{answer, after}
 use Rattle.refusals.specs.Refusal.{refusal}
 use Rattle.methylation.specs.Arrays.{EvidenceArrays, evidenceArrays, evidenceLengths, three, LeavesEvidence}
 use Rattle.methylation.specs.Methylation.{patternBases}
+use Rattle.replies.specs.Replies.{notCounted, counted}
+use Rattle.replies.specs.declared.Count.{Count}
 use Rattle.source_reads.specs.Reads.{none, readLeaves, anyLeaves}
 use Rattle.source_reads.specs.declared.SourceRead.{SourceRead}
 use Rattle.simplex_methylation.specs.Simplex.{Setting, marksOf, Below, simplexFaults, evidence, BegunAs, AddedAs, AnnotatedAs}
-use Rattle.simplex_methylation.specs.declared.SimplexMethylation.{SimplexMethylation}
-use Rattle.simplex_methylation.specs.declared.SimplexMethylation.the-variants.{Refused, Written}
 use Rattle.simplex_methylation.proofs.Room.{Room, room}
 use Rattle.simplex_methylation.proofs.Running.{Running, begun, ready, added-next, whole, inside}
 
-module _ (s : Setting) (ys : List SourceRead) (n : ℕ) (before : EvidenceArrays) where
+module _ (wrong : Bool) (s : Setting) (ys : List SourceRead) (n : ℕ) (before : EvidenceArrays) where
   abbrev unconverted-letter : ℕ
   unconverted-letter = patternBases (s .pattern) .unconverted
 
@@ -36,7 +36,7 @@ module _ (s : Setting) (ys : List SourceRead) (n : ℕ) (before : EvidenceArrays
 
   pub record Known (leaving : Bool) (number many : ℕ) (ms : List ℕ) : Type 0 where
     pub leaves : leaving ≡ anyLeaves (length (s .bytes)) ys
-    pub refused : number ≡ refusal (simplexFaults n (length ys) leaving (three (evidenceLengths before)))
+    pub refused : number ≡ refusal (simplexFaults wrong n (length ys) leaving (three (evidenceLengths before)))
     pub marks : ms ≡ after number (marksOf (patternBases (s .pattern) .reference) (s .reference) n) (before .marks)
     pub many-are : many ≡ cond (eqb number 0) (length ys) 0
 
@@ -49,7 +49,7 @@ module _ (s : Setting) (ys : List SourceRead) (n : ℕ) (before : EvidenceArrays
 
   pub first-turn :
       {leaving : Bool} {number many : ℕ} {ms us cs : List ℕ}
-      → BegunAs (patternBases (s .pattern) .reference) (s .reference) n (length ys) leaving before (evidenceArrays ms us cs) number
+      → BegunAs wrong (patternBases (s .pattern) .reference) (s .reference) n (length ys) leaving before (evidenceArrays ms us cs) number
       → length us ≡ length (before .unconverted)
       → length cs ≡ length (before .converted)
       → Turn number many 0 us cs
@@ -80,8 +80,8 @@ module _ (s : Setting) (ys : List SourceRead) (n : ℕ) (before : EvidenceArrays
       abbrev free : (number ≡ 0) × (i < length ys)
       free = taken number (k .many-are) l
 
-      abbrev fits : Room n (length ys) leaving (length (before .marks)) (length (before .unconverted)) (length (before .converted))
-      fits = room n (length ys) leaving (length (before .marks)) (length (before .unconverted)) (length (before .converted)) (k .refused) (free .0)
+      abbrev fits : Room wrong n (length ys) leaving (length (before .marks)) (length (before .unconverted)) (length (before .converted))
+      fits = room wrong n (length ys) leaving (length (before .marks)) (length (before .unconverted)) (length (before .converted)) (k .refused) (free .0)
 
       now-unconverted : Running s unconverted-letter ys n (before .unconverted) 0 i us
       now-unconverted = rw (free .0) at (t .unconverted)
@@ -113,12 +113,12 @@ module _ (s : Setting) (ys : List SourceRead) (n : ℕ) (before : EvidenceArrays
             (added-next s converted-letter ys n (before .converted) now-converted (free .1) (fits .outs .2) (a .convertedOnes));
       }
 
-    pub told : {r : SimplexMethylation} → many ≤ i → r ≡ answer Refused number (Written n) → AnnotatedAs s ys n before (evidenceArrays ms us cs) r
+    pub told : {r : Count} → many ≤ i → r ≡ answer notCounted number (counted n) → AnnotatedAs wrong s ys n before (evidenceArrays ms us cs) r
     told {r} o e =
         let all : cond (eqb number 0) (length ys) 0 ≤ i = omega (arith, k .many-are, o) in
-        let number-is : number ≡ refusal (simplexFaults n (length ys) (anyLeaves (length (s .bytes)) ys) (three (evidenceLengths before))) = rw (k .leaves) at (k .refused) in
+        let number-is : number ≡ refusal (simplexFaults wrong n (length ys) (anyLeaves (length (s .bytes)) ys) (three (evidenceLengths before))) = rw (k .leaves) at (k .refused) in
         record {
-          answered = e ∙ ap (λ (m : ℕ). answer Refused m (Written n)) number-is;
+          answered = e ∙ ap (λ (m : ℕ). answer notCounted m (counted n)) number-is;
           left = subst (λ (m : ℕ). LeavesEvidence m (evidence s ys n) before (evidenceArrays ms us cs)) number-is (record {
             marks = k .marks;
             unconverted = whole s unconverted-letter ys n (before .unconverted) (t .unconverted) all;

@@ -8,15 +8,15 @@ use lib.ListN.{length, getD, replicate}
 use Rattle.lists.specs.Count.{countOf}
 use Rattle.lists.specs.Output.{answer, put}
 use Rattle.lists.specs.Table.{tabulate}
-use Rattle.refusals.specs.Refusal.{Fault, _if_, tooLong, tooMany, tooShort, refusal, TooLong, TooManyReads, PartOutside, OutputTooShort}
+use Rattle.refusals.specs.Refusal.{Fault, _if_, tooLong, tooMany, tooShort, refusal, Broken, TooLong, TooManyReads, PartOutside, OutputTooShort}
 use Rattle.dna.specs.Dna.{upper}
 use Rattle.methylation.specs.Arrays.{EvidenceArrays, evidenceArrays, evidenceLengths, three, LeavesEvidence}
 use Rattle.methylation.specs.Methylation.{patternBases}
 use Rattle.methylation.specs.declared.ConversionPattern.{ConversionPattern}
+use Rattle.replies.specs.Replies.{notCounted, counted}
+use Rattle.replies.specs.declared.Count.{Count}
 use Rattle.source_reads.specs.Reads.{reaches, anyLeaves}
 use Rattle.source_reads.specs.declared.SourceRead.{SourceRead}
-use Rattle.simplex_methylation.specs.declared.SimplexMethylation.{SimplexMethylation}
-use Rattle.simplex_methylation.specs.declared.SimplexMethylation.the-variants.{Refused, Written}
 
 -- What all reads have in common: the pattern, the bytes of their bases, the reference bases by position, the bytes of their
 -- alignment marks, and whether every position is counted.
@@ -73,10 +73,11 @@ added n met soFar = tabulate n (λ i. cond (met i) (getD soFar i 0 + 1) (getD so
 abbrev pub Below : ℕ → ℕ → List ℕ → Type 0
 Below limit n soFar = (i : ℕ) → i < n → getD soFar i 0 < limit
 
--- The length of the consensus, the number of reads, whether a read's part leaves its bytes, and the lengths of the outputs.
-unfoldable pub simplexFaults : ℕ → ℕ → Bool → List ℕ → List Fault
-simplexFaults n reads leaving outs =
-    (TooLong if tooLong (n ∷ []))
+-- Whether the pattern stands for nothing, the length of the consensus, the number of reads, whether a read's part leaves its bytes, and the lengths of the outputs.
+unfoldable pub simplexFaults : Bool → ℕ → ℕ → Bool → List ℕ → List Fault
+simplexFaults wrong n reads leaving outs =
+    (Broken if wrong)
+    ∷ (TooLong if tooLong (n ∷ []))
     ∷ (TooManyReads if tooMany (reads ∷ []))
     ∷ (PartOutside if leaving)
     ∷ (OutputTooShort if tooShort n outs)
@@ -93,8 +94,8 @@ abbrev pub uncounted : ℕ → List ℕ → ℕ → EvidenceArrays
 uncounted letter reference n = evidenceArrays (marksOf letter reference n) (replicate n 0) (replicate n 0)
 
 -- What a call of `begin_annotation` answers and leaves.
-pub record BegunAs (letter : ℕ) (reference : List ℕ) (n reads : ℕ) (leaving : Bool) (before now : EvidenceArrays) (r : ℕ) : Type 0 where
-  pub answered : r ≡ refusal (simplexFaults n reads leaving (three (evidenceLengths before)))
+pub record BegunAs (wrong : Bool) (letter : ℕ) (reference : List ℕ) (n reads : ℕ) (leaving : Bool) (before now : EvidenceArrays) (r : ℕ) : Type 0 where
+  pub answered : r ≡ refusal (simplexFaults wrong n reads leaving (three (evidenceLengths before)))
   pub left : LeavesEvidence r (uncounted letter reference n) before now
 
 -- What a call of `add_read` leaves of the two counts.
@@ -103,10 +104,10 @@ pub record AddedAs (s : Setting) (read : SourceRead) (n : ℕ) (unconverted conv
   pub convertedOnes : converted′ ≡ put (added n (λ i. shown s (patternBases (s .pattern) .converted) i read) converted) converted
 
 -- The number of a call's refusal.
-abbrev pub simplexRefused : Setting → List SourceRead → ℕ → EvidenceArrays → ℕ
-simplexRefused s reads n before = refusal (simplexFaults n (length reads) (anyLeaves (length (s .bytes)) reads) (three (evidenceLengths before)))
+abbrev pub simplexRefused : Bool → Setting → List SourceRead → ℕ → EvidenceArrays → ℕ
+simplexRefused wrong s reads n before = refusal (simplexFaults wrong n (length reads) (anyLeaves (length (s .bytes)) reads) (three (evidenceLengths before)))
 
--- What a call of `annotate_simplex_methylation` answers and leaves.
-pub record AnnotatedAs (s : Setting) (reads : List SourceRead) (n : ℕ) (before now : EvidenceArrays) (r : SimplexMethylation) : Type 0 where
-  pub answered : r ≡ answer Refused (simplexRefused s reads n before) (Written n)
-  pub left : LeavesEvidence (simplexRefused s reads n before) (evidence s reads n) before now
+-- What a call of `gedrashiw_annotate_simplex_methylation` answers and leaves.
+pub record AnnotatedAs (wrong : Bool) (s : Setting) (reads : List SourceRead) (n : ℕ) (before now : EvidenceArrays) (r : Count) : Type 0 where
+  pub answered : r ≡ answer notCounted (simplexRefused wrong s reads n before) (counted n)
+  pub left : LeavesEvidence (simplexRefused wrong s reads n before) (evidence s reads n) before now

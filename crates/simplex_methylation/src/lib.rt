@@ -1,4 +1,5 @@
-// Methylation evidence of a simplex consensus, from methylation.rs. Uses lists, refusals, dna, methylation and source_reads.
+// Methylation evidence of a simplex consensus, from methylation.rs, as an entry point over numbers. Uses lists, refusals, dna,
+// methylation, replies and source_reads.
 ghost use mathlib.Core.Path.{_≡_};
 ghost use mathlib.Core.Bool.{false, cond, _&&_};
 ghost use mathlib.Core.List.{[], _∷_};
@@ -8,15 +9,16 @@ ghost use lib.Dec.{eqb};
 ghost use Rattle.lists.specs.Output.{answer, put};
 ghost use Rattle.refusals.specs.Refusal.{refusal};
 ghost use Rattle.methylation.specs.Methylation.{patternBases};
+ghost use Rattle.replies.specs.Choices.{yes, patternOf, wrongPattern};
+ghost use Rattle.replies.specs.Replies.{notCounted, counted};
 ghost use Rattle.source_reads.specs.Reads.{readLeaves};
 ghost use Rattle.methylation.specs.Arrays.{evidenceArrays};
 ghost use Rattle.simplex_methylation.specs.Simplex.{setting, isLetter, baseIs, looked, marksOf, added, Below, simplexFaults, BegunAs, AddedAs, AnnotatedAs};
-ghost use Rattle.simplex_methylation.specs.declared.SimplexMethylation.the-variants.{Refused, Written};
 use dna::to_ascii_uppercase;
 use lists::at_u8;
 use lists::smaller;
-use methylation::ConversionPattern;
 use methylation::PatternBases;
+use refusals::BROKEN;
 use refusals::MAX_POSITIONS;
 use refusals::MAX_READS;
 use refusals::OUTPUT_TOO_SHORT;
@@ -24,14 +26,11 @@ use refusals::PART_OUTSIDE;
 use refusals::TOO_LONG;
 use refusals::TOO_MANY_READS;
 use refusals::refuse_if;
+use replies::Count;
+use replies::pattern_of;
+use replies::wrong_pattern;
 use source_reads::SourceRead;
 use source_reads::list_leaves;
-
-pub enum SimplexMethylation {
-    Refused(u8),
-    // So many positions of each output are written.
-    Written(usize),
-}
 
 // Whether a base is a capital letter, or its lower case.
 fn is_letter(letter: u8, base: u8) -> bool
@@ -41,6 +40,7 @@ fn is_letter(letter: u8, base: u8) -> bool
 }
 
 fn simplex_refusal(
+    pattern: u8,
     consensus_len: usize,
     reads: usize,
     leaving: bool,
@@ -48,9 +48,10 @@ fn simplex_refusal(
     unconverted: usize,
     converted: usize,
 ) -> u8
-    ensures { λ r. ⌜ r ≡ refusal (simplexFaults «consensus_len» reads leaving (marks ∷ unconverted ∷ converted ∷ [])) ⌝ }
+    ensures { λ r. ⌜ r ≡ refusal (simplexFaults (wrongPattern pattern) «consensus_len» reads leaving (marks ∷ unconverted ∷ converted ∷ [])) ⌝ }
 {
-    let number = refuse_if(0, MAX_POSITIONS < consensus_len, TOO_LONG);
+    let number = refuse_if(0, wrong_pattern(pattern), BROKEN);
+    let number = refuse_if(number, MAX_POSITIONS < consensus_len, TOO_LONG);
     let number = refuse_if(number, MAX_READS < reads, TOO_MANY_READS);
     let number = refuse_if(number, leaving, PART_OUTSIDE);
     refuse_if(
@@ -96,17 +97,18 @@ fn begin_annotation(
     reads: usize,
     leaving: bool,
     reference: &[u8],
-    pattern: ConversionPattern,
+    pattern: u8,
     marks_out: &mut [u8],
     unconverted_out: &mut [u32],
     converted_out: &mut [u32],
 ) -> u8
-    ensures { λ r. ⌜ BegunAs (patternBases pattern .reference) (now (reference .entry)) «consensus_len» reads leaving
+    ensures { λ r. ⌜ BegunAs (wrongPattern pattern) (patternBases (patternOf pattern) .reference) (now (reference .entry)) «consensus_len» reads leaving
         (evidenceArrays (now («marks_out» .entry)) (now («unconverted_out» .entry)) (now («converted_out» .entry)))
         (evidenceArrays (now («marks_out» .exit)) (now («unconverted_out» .exit)) (now («converted_out» .exit)))
         r ⌝ }
 {
     let number = simplex_refusal(
+        pattern,
         consensus_len,
         reads,
         leaving,
@@ -117,7 +119,7 @@ fn begin_annotation(
     if number != 0 {
         return number;
     }
-    let letters = pattern.bases();
+    let letters = pattern_of(pattern).bases();
     mark_informative(letters.reference, reference, consensus_len, marks_out);
     clear_counts(consensus_len, unconverted_out);
     clear_counts(consensus_len, converted_out);
@@ -209,9 +211,9 @@ fn add_read(
     read: SourceRead,
     bytes: &[u8],
     reference: &[u8],
-    pattern: ConversionPattern,
+    pattern: u8,
     aligned: &[u8],
-    count_all_positions: bool,
+    count_all_positions: u8,
     consensus_len: usize,
     unconverted_out: &mut [u32],
     converted_out: &mut [u32],
@@ -219,13 +221,13 @@ fn add_read(
     requires { ⌜ (readLeaves (length (now bytes)) read ≡ false)
         × ((«consensus_len» ≤ length (now «unconverted_out»)) × Below 1024 «consensus_len» (now «unconverted_out»))
         × ((«consensus_len» ≤ length (now «converted_out»)) × Below 1024 «consensus_len» (now «converted_out»)) ⌝ }
-    ensures { λ _. ⌜ AddedAs (setting pattern (now (bytes .entry)) (now (reference .entry)) (now (aligned .entry)) «count_all_positions») read «consensus_len»
+    ensures { λ _. ⌜ AddedAs (setting (patternOf pattern) (now (bytes .entry)) (now (reference .entry)) (now (aligned .entry)) (yes «count_all_positions»)) read «consensus_len»
         (now («unconverted_out» .entry)) (now («converted_out» .entry)) (now («unconverted_out» .exit)) (now («converted_out» .exit)) ⌝ }
 {
-    let letters = pattern.bases();
+    let letters = pattern_of(pattern).bases();
     let offset = read.offset;
     let reached = smaller(consensus_len, read.length);
-    if count_all_positions {
+    if count_all_positions != 0 {
         add_everywhere(
             bytes,
             offset,
@@ -256,33 +258,41 @@ fn reads_to_add(number: u8, reads: usize) -> usize
     if number == 0 { reads } else { 0 }
 }
 
-fn simplex_answer(number: u8, consensus_len: usize) -> SimplexMethylation
-    ensures { λ r. ⌜ r ≡ answer Refused number (Written «consensus_len») ⌝ }
+fn simplex_answer(number: u8, consensus_len: usize) -> Count
+    ensures { λ r. ⌜ r ≡ answer notCounted number (counted «consensus_len») ⌝ }
 {
     if number != 0 {
-        return SimplexMethylation::Refused(number);
+        return Count {
+            refused: number,
+            count: 0,
+        };
     }
-    SimplexMethylation::Written(consensus_len)
+    Count {
+        refused: 0,
+        count: consensus_len,
+    }
 }
 
 // Marks the consensus positions whose reference base is the pattern's (C for C to T, G for G to A), in any case, and counts there
 // the reads that show it unconverted and converted, where they are aligned. With `count_all_positions` every base of every read
 // is counted. Bases, and alignment marks (0 is none), are in the orientation in which the reads were sequenced, and so is
 // `reference`: a byte for each consensus position, 0 where there is none. The mark of a base lies in `aligned` where the base lies
-// in `bytes`; one past the end is none. Refuses by 7, 9, 10, 12.
-pub fn annotate_simplex_methylation(
+// in `bytes`; one past the end is none. A pattern is 1 for C to T, 2 for G to A; `count_all_positions` is 0 for no, any other number for
+// yes. Refuses by 13, 7, 9, 10, 12.
+#[no_mangle]
+pub extern "C" fn gedrashiw_annotate_simplex_methylation(
     consensus_len: usize,
     reads: &[SourceRead],
     bytes: &[u8],
     reference: &[u8],
-    pattern: ConversionPattern,
+    pattern: u8,
     aligned: &[u8],
-    count_all_positions: bool,
+    count_all_positions: u8,
     marks_out: &mut [u8],
     unconverted_out: &mut [u32],
     converted_out: &mut [u32],
-) -> SimplexMethylation
-    ensures { λ r. ⌜ AnnotatedAs (setting pattern (now (bytes .entry)) (now (reference .entry)) (now (aligned .entry)) «count_all_positions») (now (reads .entry)) «consensus_len»
+) -> Count
+    ensures { λ r. ⌜ AnnotatedAs (wrongPattern pattern) (setting (patternOf pattern) (now (bytes .entry)) (now (reference .entry)) (now (aligned .entry)) (yes «count_all_positions»)) (now (reads .entry)) «consensus_len»
         (evidenceArrays (now («marks_out» .entry)) (now («unconverted_out» .entry)) (now («converted_out» .entry)))
         (evidenceArrays (now («marks_out» .exit)) (now («unconverted_out» .exit)) (now («converted_out» .exit)))
         r ⌝ }

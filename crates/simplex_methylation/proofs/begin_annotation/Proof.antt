@@ -1,11 +1,12 @@
 -- `simplex_methylation::begin_annotation` meets its contract: refused by its number, or marked and cleared, where there is room.
 -- Assumes nothing.
-use mathlib.Core.Path.{_≡_, refl, _∙_}
+use mathlib.Core.Path.{_≡_, refl, ap, _∙_}
 use mathlib.Core.List.{List}
 use Prim.Native.Nat.{ℕ}
 use borrow.Author.Needs.{needs}
 use Rattle.lists.specs.Output.{put}
 use Rattle.lists.proofs.Output.{after-refused, after-passed}
+use Rattle.methylation.specs.Methylation.{patternBases}
 use Rattle.methylation.specs.declared.PatternBases.{PatternBases}
 use Rattle.simplex_methylation.specs.Simplex.{marksOf}
 use Rattle.simplex_methylation.proofs.Room.{room}
@@ -22,26 +23,26 @@ returns c =
 
 -- The test of the number, seen from where the marks are written, and from where the first counts are cleared.
 abbrev tested : tie.After-mark-informative → tie.Else1
-tested c = c .before .before .before
+tested c = c .before .before .before .before
 
 abbrev marked : tie.After-clear-counts → tie.After-mark-informative
 marked c = c .before .before .before .before
 
 mark-informative-requires : tie.Need-mark-informative-requires
 mark-informative-requires c κs =
-    let test = c .before .before in
-    room _ _ _ _ _ _ (test .before .simplex-refusal .ensures) (test .if1 .left) .outs .0
+    let test = c .before .before .before in
+    room _ _ _ _ _ _ _ (test .before .simplex-refusal .ensures) (test .if1 .left) .outs .0
 
 clear-counts-requires : tie.Need-clear-counts-requires
 clear-counts-requires c κs =
     let test = tested (c .before .before .before) in
-    let r = room _ _ _ _ _ _ (test .before .simplex-refusal .ensures) (test .if1 .left) in
+    let r = room _ _ _ _ _ _ _ (test .before .simplex-refusal .ensures) (test .if1 .left) in
     (r .positions, r .outs .1)
 
 clear-counts-requires-2 : tie.Need-clear-counts-requires-2
 clear-counts-requires-2 c κs =
     let test = tested (marked (c .before .before .before)) in
-    let r = room _ _ _ _ _ _ (test .before .simplex-refusal .ensures) (test .if1 .left) in
+    let r = room _ _ _ _ _ _ _ (test .before .simplex-refusal .ensures) (test .if1 .left) in
     (r .positions, r .outs .2)
 
 with-letters :
@@ -58,7 +59,7 @@ returns-2 c =
     let marks = marked first in
     let test = tested marks in
     let passed = test .if1 .left in
-    let letters = marks .before .before .bases .ensures in
+    let letters = marks .before .before .bases .ensures ∙ ap patternBases (marks .before .before .before .pattern-of .ensures) in
     record {
       answered = test .before .simplex-refusal .ensures;
       left = record {
@@ -74,7 +75,7 @@ begin-annotation-spec =
     (tie.spec
     (λ c κs. tt)
     returns
-    (λ c κs. tt)
+    (λ c κs. tt) (λ c κs. tt)
     mark-informative-requires
     clear-counts-requires
     clear-counts-requires-2

@@ -6,7 +6,7 @@ use Rattle.simplex_methylation.proofs.simplex_refusal.Tie as tie
 
 returns : tie.Need-returns
 unfolding simplexFaults
-returns c = in-order _ (rw (c .refuse-if4 .ensures, c .before .refuse-if3 .ensures, c .before .before .refuse-if2 .ensures, c .before .before .before .refuse-if .ensures))
+returns c = in-order _ (rw (c .refuse-if5 .ensures, c .before .refuse-if4 .ensures, c .before .before .refuse-if3 .ensures, c .before .before .before .refuse-if2 .ensures, c .before .before .before .before .refuse-if .ensures, c .before .before .before .before .before .wrong-pattern .ensures))
 
 pub simplex-refusal-spec : {M : Type 1} → statement M
-simplex-refusal-spec = tie.close (tie.spec (λ c κs. tt) (λ c κs. tt) (λ c κs. tt) (λ c κs. tt) returns)
+simplex-refusal-spec = tie.close (tie.spec (λ c κs. tt) (λ c κs. tt) (λ c κs. tt) (λ c κs. tt) (λ c κs. tt) (λ c κs. tt) returns)
