@@ -1,9 +1,11 @@
--- The duplex record with its source reads, document 01.
+-- The duplex record with its source reads, document 01, and what the entry over numbers makes of it.
 use Prim.Native.Nat.{ℕ}
-use mathlib.Core.Bool.{Bool, cond}
+use mathlib.Core.Bool.{Bool, cond, _&&_}
 use mathlib.Core.List.{List}
 use lib.ListN.{length}
 use Rattle.caller.specs.Short.{short}
+use Rattle.replies.specs.Choices.{yes, wrongAnnotation}
+use Rattle.replies.specs.Replies.{RepliedAs}
 use Rattle.vanilla_caller.specs.Strand.{Arrays}
 use Rattle.duplex_molecule.specs.Molecule.{ctInput}
 use Rattle.duplex_molecule.specs.declared.CtInput.{CtInput}
@@ -11,6 +13,8 @@ use Rattle.duplex_outputs.specs.Outputs.{RecordArrays}
 use Rattle.duplex_kind.specs.Kind.{Strand}
 use Rattle.duplex_kind.specs.declared.DuplexConsensus.{DuplexConsensus}
 use Rattle.duplex_kind.specs.declared.DuplexConsensus.the-variants.{Refused, NoRecord, Ab, Ba, Both}
+use Rattle.duplex_reply.specs.Reply.{recordFor}
+use Rattle.duplex_reply.specs.declared.DuplexRecord.{DuplexRecord}
 use Rattle.duplex_record.specs.Record.{DuplexAs}
 use Rattle.source_reads.specs.Reads.{anyLeaves, readErrors, expectedAt}
 use Rattle.source_reads.specs.declared.SourceRead.{SourceRead}
@@ -32,3 +36,11 @@ abbrev pub ConsensusAs : Strand → Strand → Bool → List SourceRead → List
 ConsensusAs a b listed reads bytes before now r =
     DuplexAs a b listed (length reads) (anyLeaves (length bytes) reads)
     (listErrors reads bytes (ctInput (a .annotation) (b .annotation)) (a .arrays) (b .arrays)) before now r
+
+-- Row 13's condition for a strand: it is present, and its annotation stands for nothing.
+abbrev pub wrongStrand : ℕ → ℕ → Bool
+wrongStrand present annotation = yes present && wrongAnnotation annotation
+
+-- What the entry answers and leaves: 13 and nothing, where a strand is wrong; else all that, with the answer as numbers.
+abbrev pub EntryAs : Bool → Strand → Strand → Bool → List SourceRead → List ℕ → RecordArrays → RecordArrays → DuplexRecord → Type 0
+EntryAs wrong a b listed reads bytes = RepliedAs wrong (recordFor (Refused 13)) recordFor (ConsensusAs a b listed reads bytes)
