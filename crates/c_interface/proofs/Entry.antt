@@ -16,14 +16,15 @@ use Rattle.methylation.specs.declared.Annotation.{Annotation}
 use Rattle.duplex_kind.specs.Kind.{kindOf, givenFaults}
 use Rattle.duplex_kind.specs.declared.DuplexConsensus.{DuplexConsensus}
 use Rattle.duplex_kind.specs.declared.DuplexConsensus.the-variants.{Refused}
+use Rattle.duplex_reply.specs.Reply.{recordFor}
+use Rattle.duplex_reply.specs.declared.DuplexRecord.{DuplexRecord}
 use Rattle.duplex_record.specs.Record.{duplexFaults}
 use Rattle.molecule_strand.specs.Strand.{StrandBytes, strandBytes, strandOf}
 use Rattle.molecule_consensus.specs.Bytes.{seen, bytesFaults, bytesRefused}
 use Rattle.c_record.specs.Outputs.{RecordBytes, asArrays}
 use Rattle.c_record.proofs.Outputs.{bytes-refused}
 use Rattle.c_consensus.specs.Consensus.{ConsensusBytesAs}
-use Rattle.c_interface.specs.Entry.{entryRefused, recordFor, ConsensusEntry}
-use Rattle.c_interface.specs.declared.DuplexRecord.{DuplexRecord}
+use Rattle.c_interface.specs.Entry.{entryRefused, ConsensusEntry}
 
 -- 13 comes first.
 by-13 : (wrong : Bool) (n : ℕ) → cond (eqb (refusal ((Broken if wrong) ∷ [])) 0) n (refusal ((Broken if wrong) ∷ [])) ≡ cond wrong 13 n

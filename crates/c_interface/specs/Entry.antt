@@ -2,22 +2,19 @@
 -- there or not and for an answer.
 use Prim.Native.Nat.{ℕ}
 use mathlib.Core.Path.{_≡_}
-use mathlib.Core.Bool.{Bool, not, _&&_}
+use mathlib.Core.Bool.{Bool, _&&_}
 use mathlib.Core.List.{List, _∷_}
-use lib.Dec.{eqb, ltb}
+use lib.Dec.{ltb}
 use Rattle.lists.specs.Output.{answer}
 use Rattle.refusals.specs.Refusal.{_if_, refusal, Broken}
+use Rattle.replies.specs.Choices.{yes}
 use Rattle.duplex_kind.specs.Kind.{kindOf}
-use Rattle.duplex_kind.specs.declared.DuplexConsensus.{DuplexConsensus}
-use Rattle.duplex_kind.specs.declared.DuplexConsensus.the-variants.{Refused, NoRecord, Ab, Ba, Both}
+use Rattle.duplex_kind.specs.declared.DuplexConsensus.the-variants.{Refused}
+use Rattle.duplex_reply.specs.Reply.{recordFor}
+use Rattle.duplex_reply.specs.declared.DuplexRecord.{DuplexRecord}
 use Rattle.molecule_strand.specs.Strand.{StrandBytes, annotationOf, strandBytes, strandOf}
 use Rattle.molecule_consensus.specs.Bytes.{seen, bytesFaults, bytesRecord}
 use Rattle.c_record.specs.Outputs.{RecordBytes, asBytes, asArrays, LeavesBytes}
-use Rattle.c_interface.specs.declared.DuplexRecord.{DuplexRecord}
-
--- 0 is no, any other number yes.
-abbrev pub yes : ℕ → Bool
-yes number = not (eqb number 0)
 
 -- A pattern is looked at of a strand that is there and annotated.
 abbrev pub told : ℕ → ℕ → Bool
@@ -35,17 +32,6 @@ strandGiven present annotated pattern bases quals depths errors evidence =
 -- Row 13 for a pattern, before all that refuses the library's call.
 abbrev pub entryRefused : Bool → StrandBytes → StrandBytes → Bool → List ℕ → RecordBytes → ℕ
 entryRefused wrong a b listed run out = refusal ((Broken if wrong) ∷ bytesFaults a b listed run (asArrays out))
-
--- An answer as numbers. Kind 0: none; 1: A alone; 2: B alone; 3: both.
-abbrev pub made : ℕ → ℕ → DuplexRecord
-made kind n = record { refused = 0; kind = kind; positions = n }
-
-abbrev pub recordFor : DuplexConsensus → DuplexRecord
-recordFor (Refused number) = record { refused = number; kind = 0; positions = 0 }
-recordFor NoRecord = made 0 0
-recordFor (Ab n) = made 1 n
-recordFor (Ba n) = made 2 n
-recordFor (Both n) = made 3 n
 
 -- What `gedrashiw_duplex_consensus` answers and leaves, where a pattern is wrong or not.
 pub record ConsensusEntry (wrong : Bool) (a b : StrandBytes) (listed : Bool) (run : List ℕ) (before now : RecordBytes) (r : DuplexRecord) : Type 0 where

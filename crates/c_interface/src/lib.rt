@@ -1,64 +1,26 @@
 // Entry points for C programs: numbers and byte slices, and answers as numbers. An array of wider numbers is passed as its bytes,
-// low byte first. This crate owns the numbers for what is there or not and for a kind; the calls are c_metrics's and
-// c_consensus's. Uses refusals, molecule_strand, duplex_kind, c_metrics and c_consensus.
+// low byte first. This crate owns the numbers for what is there and for a pattern; the calls are c_metrics's and c_consensus's. Uses
+// refusals, molecule_strand, duplex_kind, duplex_reply, c_metrics and c_consensus.
 ghost use mathlib.Core.Path.{_≡_};
 ghost use mathlib.Core.Bool.{_||_};
+ghost use Rattle.replies.specs.Choices.{yes};
 ghost use Rattle.duplex_metrics.specs.Metrics.{input};
 ghost use Rattle.c_record.specs.Outputs.{recordBytes};
 ghost use Rattle.c_metrics.specs.Bytes.{seen, MetricsEntry};
-ghost use Rattle.c_interface.specs.Entry.{yes, told, wrongPattern, strandGiven, recordFor, ConsensusEntry};
+ghost use Rattle.c_interface.specs.Entry.{told, wrongPattern, strandGiven, ConsensusEntry};
 use c_consensus::duplex_consensus_bytes;
 use c_metrics::metrics_of_bytes;
 use duplex_kind::DuplexConsensus;
+use duplex_reply::DuplexRecord;
+use duplex_reply::record_for;
 use molecule_strand::annotation_of;
 use refusals::BROKEN;
-
-// What a duplex record is: `refused` is the refusal's number, 0 for none; kind 0 is no record, 1 strand A alone, 2 strand B alone,
-// 3 both.
-#[repr(C)]
-pub struct DuplexRecord {
-    pub refused: u8,
-    pub kind: u8,
-    pub positions: usize,
-}
 
 // Row 13's condition for a pattern.
 fn wrong_pattern(annotated: bool, pattern: u8) -> bool
     ensures { λ r. ⌜ r ≡ wrongPattern annotated pattern ⌝ }
 {
     annotated & (1 < pattern)
-}
-
-fn record_for(answer: DuplexConsensus) -> DuplexRecord
-    ensures { λ r. ⌜ r ≡ recordFor answer ⌝ }
-{
-    match answer {
-        DuplexConsensus::Refused(number) => DuplexRecord {
-            refused: number,
-            kind: 0,
-            positions: 0,
-        },
-        DuplexConsensus::NoRecord => DuplexRecord {
-            refused: 0,
-            kind: 0,
-            positions: 0,
-        },
-        DuplexConsensus::Ab(n) => DuplexRecord {
-            refused: 0,
-            kind: 1,
-            positions: n,
-        },
-        DuplexConsensus::Ba(n) => DuplexRecord {
-            refused: 0,
-            kind: 2,
-            positions: n,
-        },
-        DuplexConsensus::Both(n) => DuplexRecord {
-            refused: 0,
-            kind: 3,
-            positions: n,
-        },
-    }
 }
 
 // The duplex record of two strands, document 01's combination, as bytes. Of a strand that is not there nothing is looked at, and its
