@@ -112,9 +112,14 @@ static inline uint8_t *block_passed(const struct block *b, int place)
 }
 
 static uint32_t seed = 20240607;
+static const uint8_t *drawn, *drawn_end; /* where a fuzzer has given bytes, these come first */
 
 static inline uint32_t chance(void)
 {
+    if (drawn_end - drawn >= 3) {
+        drawn += 3;
+        return (uint32_t)drawn[-3] | (uint32_t)drawn[-2] << 8 | (uint32_t)drawn[-1] << 16;
+    }
     seed = seed * 1664525u + 1013904223u;
     return seed >> 8;
 }

@@ -371,6 +371,29 @@ static void try_context(void)
     }
 }
 
+static void try_rate(void)
+{
+    static const uint32_t usual[] = {0, 1, 2, 12, 16777215, 16777216, 16777217, 33554435, 67108864, 4294967295u};
+    uint32_t e = some_of(usual, 10, 1u << 24), d = some_of(usual, 10, 1u << 24);
+    same("rate_bits", "rate", gedrashiw_rate_bits(e, d), rate(e, d));
+}
+
+/* Each entry once, on a case by chance. */
+static void one_round(void)
+{
+    try_thresholds();
+    try_read_gate();
+    try_consensus_gate();
+    try_partition();
+    try_strand_metrics();
+    try_duplex_metrics();
+    try_combined_depths();
+    try_read_name();
+    try_context();
+    try_rate();
+}
+
+#ifndef FUZZED /* by tests/fuzz */
 static void bytes_of_all_kinds(void)
 {
     for (uint32_t n = 0; n < 65536; n++) {
@@ -406,30 +429,13 @@ static void bytes_of_all_kinds(void)
     }
 }
 
-static void try_rate(void)
-{
-    static const uint32_t usual[] = {0, 1, 2, 12, 16777215, 16777216, 16777217, 33554435, 67108864, 4294967295u};
-    uint32_t e = some_of(usual, 10, 1u << 24), d = some_of(usual, 10, 1u << 24);
-    same("rate_bits", "rate", gedrashiw_rate_bits(e, d), rate(e, d));
-}
-
 int main(void)
 {
     make_lent_blocks();
     bytes_of_all_kinds();
     same("rate_bits", "2 of 12", gedrashiw_rate_bits(2, 12), 0x3e2aaaab);
-    for (int k = 0; k < 4000; k++) {
-        try_thresholds();
-        try_read_gate();
-        try_consensus_gate();
-        try_partition();
-        try_strand_metrics();
-        try_duplex_metrics();
-        try_combined_depths();
-        try_read_name();
-        try_context();
-        try_rate();
-    }
+    for (int k = 0; k < 4000; k++)
+        one_round();
     rows("validate_min_reads", "1 2 3 4");
     rows("min_yx_reads_for", "1 2 3 4");
     rows("allows_single_strand", "1 2 3 4");
@@ -448,3 +454,4 @@ int main(void)
     printf("the typed entries over reads, gates, depths and metrics: %ld checks, %ld failures\n", checks, failures);
     return failures != 0;
 }
+#endif

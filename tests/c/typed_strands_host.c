@@ -330,17 +330,23 @@ static void try_padded(int by_default)
     }
 }
 
+/* Each entry once, on a case by chance. */
+static void one_round(void)
+{
+    try_combine(0);
+    try_combine(1);
+    try_single();
+    try_consensus();
+    try_padded(0);
+    try_padded(1);
+}
+
+#ifndef FUZZED /* by tests/fuzz */
 int main(void)
 {
     make_lent_blocks();
-    for (int k = 0; k < 12000; k++) {
-        try_combine(0);
-        try_combine(1);
-        try_single();
-        try_consensus();
-        try_padded(0);
-        try_padded(1);
-    }
+    for (int k = 0; k < 6000; k++)
+        one_round();
     rows("combine_strands", "7 8 12");
     rows("combine_strands_annotated", "13 7 8 12");
     rows("gated_single_strand", "13 7 8 12");
@@ -350,3 +356,4 @@ int main(void)
     printf("the typed entries over strands: %ld checks, %ld failures\n", checks, failures);
     return failures != 0;
 }
+#endif

@@ -407,18 +407,24 @@ static void try_duplex_tags(void)
     }
 }
 
+/* Each entry once, on a case by chance. */
+static void one_round(void)
+{
+    try_gate();
+    try_truncate();
+    try_counts();
+    try_simplex();
+    try_restore();
+    try_tags();
+    try_duplex_tags();
+}
+
+#ifndef FUZZED /* by tests/fuzz */
 int main(void)
 {
     make_lent_blocks();
-    for (int k = 0; k < 8000; k++) {
-        try_gate();
-        try_truncate();
-        try_counts();
-        try_simplex();
-        try_restore();
-        try_tags();
-        try_duplex_tags();
-    }
+    for (int k = 0; k < 8000; k++)
+        one_round();
     rows("gate_to_informative", "7 8");
     rows("truncate", "7 8 12");
     rows("unconverted_counts", "7 12");
@@ -433,3 +439,4 @@ int main(void)
     printf("the typed entries over evidence and tags: %ld checks, %ld failures\n", checks, failures);
     return failures != 0;
 }
+#endif

@@ -1,0 +1,5 @@
+/* Fuzzes the typed entries over strands. */
+#define FUZZED
+#include "typed_strands_host.c"
+
+#include "typed.h"
