@@ -227,7 +227,7 @@ impl Call {
                 let mm = |mm: Option<usize>| said_tags(mm.map(|mm| TagLengths { mm, ml: 0 }));
                 said(build_mm_tag_no_ml_into(bases, &ours::annotation(a), mode, &mut out.bytes[0]), mm)
             }
-            Call::Restore => said(restore_unconverted_bases(&mut out.bytes[0], &ours::annotation(a)), |()| positions(n)),
+            Call::Restore => said(restore_unconverted_bases(&mut out.bytes[0], &ours::annotation(a)), positions),
             Call::StrandBases => said(methylation_strand_bases_into(&ours::strand(bases, a), &mut out.bytes[0]), positions),
             Call::Gate => said(gate_to_informative_into(&mut ours::evidence(out)), positions),
             Call::Truncate => said(ours::annotation(a).truncate_into(*len, &mut ours::evidence(out)), positions),

@@ -5,6 +5,7 @@ use crate::methylation::{ConversionPattern, EvidenceArrays, EvidenceOut, Given, 
 use crate::refusal::{Refusal, told};
 use crate::vanilla_caller::{SourceReads, VanillaConsensusRead};
 use std::borrow::Cow;
+use std::ops::Range;
 
 /// The calls of the duplex caller. It has no state, so there is none of it.
 #[derive(Clone, Copy, Debug, PartialEq, Eq)]
@@ -65,10 +66,10 @@ pub struct Partition<'a> {
 }
 
 /// How many read numbers are written for each strand.
-#[derive(Clone, Copy, Debug, PartialEq, Eq)]
-pub struct PartitionLengths<'a> {
-    /// The first read's MI without its last two bytes; `None` where there are no reads.
-    pub base_mi: Option<&'a [u8]>,
+#[derive(Clone, Debug, PartialEq, Eq)]
+pub struct PartitionLengths {
+    /// Where the first read's MI without its last two bytes is among the bytes; `None` where there are no reads.
+    pub base_mi: Option<Range<usize>>,
     /// How many reads of strand A.
     pub a: usize,
     /// How many of strand B.
@@ -281,7 +282,7 @@ impl DuplexConsensusCaller {
         let lengths = Self::partition_records_by_strand_into(reads, bytes, &mut a_records, &mut b_records)?;
         a_records.truncate(lengths.a);
         b_records.truncate(lengths.b);
-        Ok(Partition { base_mi: lengths.base_mi, a_records, b_records })
+        Ok(Partition { base_mi: lengths.base_mi.map(|part| &bytes[part]), a_records, b_records })
     }
 
     /// Writes the read numbers of each strand; each output must have as many places as there are reads.
@@ -296,18 +297,18 @@ impl DuplexConsensusCaller {
     /// let (mut a, mut b) = ([9; 2], [9; 2]);
     /// let reads = [MiPart::new(0, 2)];
     /// let lengths = DuplexConsensusCaller::partition_records_by_strand_into(&reads, b"/A", &mut a, &mut b)?;
-    /// assert_eq!((lengths.base_mi, lengths.a, lengths.b), (Some(&b""[..]), 1, 0));
+    /// assert_eq!((lengths.base_mi, lengths.a, lengths.b), (Some(0..0), 1, 0));
     /// assert_eq!((a, b), ([0, 9], [9, 9]));
     /// # Ok::<(), gedrashiw::Refusal>(())
     /// ```
-    pub fn partition_records_by_strand_into<'a>(
+    pub fn partition_records_by_strand_into(
         reads: &[MiPart],
-        bytes: &'a [u8],
+        bytes: &[u8],
         a_out: &mut [u16],
         b_out: &mut [u16],
-    ) -> Result<PartitionLengths<'a>, Refusal> {
+    ) -> Result<PartitionLengths, Refusal> {
         let p = entries::gedrashiw_partition_records_by_strand(reads, bytes, a_out, b_out);
-        let base_mi = (p.base_mi != 0).then(|| &bytes[p.offset..p.offset + p.length]);
+        let base_mi = (p.base_mi != 0).then(|| p.offset..p.offset + p.length);
         told(p.refused, PartitionLengths { base_mi, a: p.a, b: p.b })
     }
 

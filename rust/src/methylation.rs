@@ -481,7 +481,8 @@ pub fn gate_to_informative_into(evidence: &mut EvidenceOut) -> Result<usize, Ref
     told(gated.refused, gated.count)
 }
 
-/// Restores converted bases to the unconverted one at the annotation's informative positions, in place.
+/// Restores converted bases to the unconverted one at the annotation's informative positions, in place; answers how many positions
+/// there are.
 ///
 /// # Errors
 ///
@@ -493,14 +494,13 @@ pub fn gate_to_informative_into(evidence: &mut EvidenceOut) -> Result<usize, Ref
 /// let evidence = EvidenceArrays::new(&[1, 0, 1], &[0; 3], &[1; 3]);
 /// let annotation = MethylationAnnotation { evidence, pattern: ConversionPattern::CToT };
 /// let mut bases = *b"TTt";
-/// restore_unconverted_bases(&mut bases, &annotation)?;
+/// assert_eq!(restore_unconverted_bases(&mut bases, &annotation), Ok(3));
 /// assert_eq!(&bases, b"CTC");
-/// # Ok::<(), gedrashiw::Refusal>(())
 /// ```
-pub fn restore_unconverted_bases(consensus_bases: &mut [u8], annotation: &MethylationAnnotation) -> Result<(), Refusal> {
+pub fn restore_unconverted_bases(consensus_bases: &mut [u8], annotation: &MethylationAnnotation) -> Result<usize, Refusal> {
     let marks = &annotation.evidence.informative;
     let restored = entries::gedrashiw_restore_unconverted_bases(consensus_bases, annotation.pattern as u8, marks);
-    told(restored.refused, ())
+    told(restored.refused, restored.count)
 }
 
 /// The counts of two strands added at each of so many positions, each sum held to `i16::MAX`; a strand that ends before adds none.
