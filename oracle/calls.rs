@@ -384,7 +384,7 @@ fn depths_of_record(v: &Vector, range: bool) -> Said {
     if range { said } else { said.out(&depths) }
 }
 
-// The calls by number: the same as in crates/test_replay/src/main.rt and vectors.py.
+// The calls by number: the same as in tests/replay/src/main.rs and vectors.py.
 // One position of two strands without annotation or list. Field 0: A's base and quality, and B's; 1: A's depth and errors, B's.
 fn position(v: &Vector) -> Said {
     let (b, n) = (v.u8s(0), v.u16s(1));

@@ -281,7 +281,7 @@ def depth_pairs(call, draw, count, with_output):
         yield vector(call, u64([n]), *(u16(draw.counts(m)) for m in lengths), *output)
 
 
-# The calls by number, the same as in calls.rs and crates/test_replay/src/main.rt: the name, and what makes the vectors.
+# The calls by number, the same as in calls.rs and tests/replay/src/main.rs: the name, and what makes the vectors.
 def positions(call, draw, count):
     """All pairs of these bases and qualities, with depths and errors at the extremes."""
     qualities = [0, 1, 2, 3, 30, 31, 46, 47, 62, 92, 93, 94, 255]

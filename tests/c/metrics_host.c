@@ -194,7 +194,7 @@ static void several(void)
     }
 }
 
-/* ---- the Rust's answers: the vectors of crates/test_replay (oracle/README.md) and the lines that the Rust side wrote for them */
+/* ---- the Rust's answers: the vectors of tests/replay (oracle/README.md) and the lines that the Rust side wrote for them */
 
 enum { METRICS_CALL = 29 };
 
