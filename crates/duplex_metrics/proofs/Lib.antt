@@ -1,3 +1,3 @@
 pub mod Depths
 pub mod Few
-pub mod HonestRates
+pub mod Returned

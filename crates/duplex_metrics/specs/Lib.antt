@@ -1,2 +1,1 @@
-pub mod HonestRates
 pub mod Metrics

@@ -5,19 +5,16 @@
 use mathlib.Core.Path.{_≡_}
 use Prim.Native.Nat.{ℕ}
 use Rattle.duplex_metrics.specs.Metrics.{Input, metricsOf}
-use Rattle.duplex_metrics.specs.HonestRates.{Call, aE, bE, cE}
 use Rattle.duplex_metrics.specs.declared.Metrics.{Metrics}
 use Rattle.duplex_metrics.specs.declared.Metrics.the-variants.{Refused, Of}
 use Rattle.duplex_metrics.specs.declared.MetricsRecord.{MetricsRecord}
-use Rattle.duplex_metrics.proofs.HonestRates.{rate-number}
+use Rattle.duplex_metrics.proofs.Returned.{a-number, b-number, c-number}
 use Rattle.metrics_bits.specs.Bits.{Numbers, inBits, metricsWords}
 use Rattle.metrics_bits.specs.declared.MetricsBits.{MetricsBits}
 use Rattle.metrics_bits.specs.declared.MetricsWords.the-variants.{Refused as Refused-words, Of as Of-bits}
 
 pub numbers : (x : Input) (r : MetricsRecord) → metricsOf x ≡ Of r → Numbers r
-numbers x r e =
-    let call : Call = record { given = x; returned = r; answered = e } in
-    record { a = rate-number call aE; b = rate-number call bE; c = rate-number call cE }
+numbers x r e = record { a = a-number x r e; b = b-number x r e; c = c-number x r e }
 
 pub refused-words : {given promised : Metrics} {n : ℕ} → given ≡ promised → given ≡ Refused n → Refused-words n ≡ metricsWords promised
 refused-words e f = rw (← e, f)

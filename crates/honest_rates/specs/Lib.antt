@@ -1,0 +1,2 @@
+pub mod HonestRates
+pub mod Text
