@@ -3,7 +3,7 @@
 use mathlib.Core.Path.{_≡_, refl, sym, ap, ap₂, subst, _∙_}
 use mathlib.Core.Bool.{Bool, true, false, cond}
 use mathlib.Core.List.{List, []}
-use Prim.Native.Nat.{ℕ, _*_, _^_, _≤_, _<_}
+use Prim.Native.Nat.{ℕ, zero, suc, _*_, _^_, _≤_, _<_}
 use native.Mathlib.Omega.{arith}
 use lib.Dec.{T, eqb}
 use lib.ListN.{length, take, drop}
@@ -11,7 +11,7 @@ use lib.Ieee.{binary32, fin, fits, ofInt, div, toBits}
 use lib.Ieee.Fits.{cond-fits, div-fits}
 use lib.Ieee.Bits.{toBits-lt}
 use lib.IntN.{pos}
-use Rattle.lists.specs.Output.{put}
+use Rattle.lists.specs.Output.{put, unless, answer}
 use Rattle.lists.specs.Part.{onlyIf}
 use Rattle.lists.proofs.Output.{answer-passed, written, front-of}
 use Rattle.rates.specs.Rate as rate
@@ -22,7 +22,7 @@ use Rattle.hexadecimal.specs.Hexadecimal.{valueOf}
 use Rattle.hexadecimal.proofs.Hexadecimal.{read-back}
 use Rattle.byte_numbers.specs.Bytes.{numberOf, words16, bytes32}
 use Rattle.duplex_metrics.specs.Metrics as metrics
-use Rattle.duplex_metrics.specs.Metrics.{Input, input, metricsOf, metricsRecord, figuresA, figuresB, figuresC, noCalls, lengths}
+use Rattle.duplex_metrics.specs.Metrics.{Input, input, metricsOf, metricsRefused, metricsRecord, figuresA, figuresB, figuresC, noCalls, lengths}
 use Rattle.duplex_metrics.specs.declared.Metrics.{Metrics}
 use Rattle.duplex_metrics.specs.declared.Metrics.the-variants.{Refused, Of}
 use Rattle.duplex_metrics.specs.declared.MetricsRecord.{MetricsRecord}
@@ -33,12 +33,15 @@ use Rattle.metrics_bits.specs.declared.MetricsWords.the-variants.{Of as Of-bits
 use Rattle.c_metrics.specs.Bytes.{MetricsEntry, seen, decoded, oddCounts, recordWords, metricsBytes}
 use Rattle.c_metrics.proofs.Bytes.{clear}
 use Rattle.c_interface.specs.Entry.{yes}
+use Rattle.replies.specs.Choices as choices
+use Rattle.rust_metrics.specs.Answers.{metricsReply}
+use Rattle.rust_metrics.specs.declared.MetricsReply.{MetricsReply}
 use Rattle.line_output.proofs.Text.{length-printed}
 use Rattle.line_format.specs.Line.{lineText}
 use Rattle.line_record.specs.declared.Line.{Line}
 use Rattle.line_molecule.specs.Line.{textOf, TextIn}
 use Rattle.honest_rates.specs.Text.{column, numbersIn}
-use Rattle.honest_rates.specs.HonestRates.{Own, word, text, Returned, floats, in-bits, in-bytes, for-c, printed, Rate, aE, bE, cE, bits, Measured, measured, fromNumbers, fromBytes, fromMolecule, over, errorsOf, depthsOf, errorSum, depthSum, EqualRates, CloseRates}
+use Rattle.honest_rates.specs.HonestRates.{Own, word, text, Returned, floats, in-bits, in-bytes, for-c, in-reply, printed, Rate, aE, bE, cE, bits, Measured, measured, fromNumbers, fromBytes, fromMolecule, over, errorsOf, depthsOf, errorSum, depthSum, EqualRates, CloseRates}
 use Rattle.honest_rates.proofs.Text.{column-bases, column-errors, column-aE, column-bE, column-cE, numbers-back}
 use Rattle.honest_rates.proofs.Line.{kindIn, IsRecord, record-printed}
 use Rattle.honest_rates.proofs.Bytes.{word-at}
@@ -139,6 +142,37 @@ module _ (x : Input) (before after : List ℕ) (e : MetricsEntry (seen x) before
   place-bits : (p : Rate) → in-place after p ≡ behind (fromBytes (x .a) (x .a-errors) (x .second) (x .b) (x .b-errors) (x .errors)) p
   place-bits p = place-word p ∙ word-bits y (inBits made) words-are p ∙ ap (λ (m : Measured). behind m p) same-arrays
 
+-- ---- A reply
+
+-- No refusal has the number 0.
+refused-number : (n k : ℕ) (r : MetricsRecord) → answer Refused n (Of r) ≡ Refused k → k ≡ 0 → ⊥
+unfolding answer unless
+refused-number zero k r e z =
+    let no : _≡_ {A = ℕ} 0 1 = cc in
+    omega arith
+refused-number (suc n) k r e z =
+    let same : k ≡ suc n = cc in
+    omega arith
+
+abbrev replied : MetricsReply → Rate → ℕ
+replied r aE = r .aE
+replied r bE = r .bE
+replied r cE = r .cE
+
+replied-word : (m : MetricsBits) (p : Rate) → replied (metricsReply (Of-bits m)) p ≡ in-word m p
+replied-word m aE = refl
+replied-word m bE = refl
+replied-word m cE = refl
+
+module _ (x : Input) (r : MetricsReply) (e : r ≡ metricsReply (metricsWords (metricsOf x))) (z : r .refused ≡ 0) where
+  reply-bits : (p : Rate) → replied r p ≡ behind (fromNumbers x) p
+  unfolding metricsOf
+  reply-bits p = go (metricsOf x) refl e
+    where
+      go : (given : Metrics) → metricsOf x ≡ given → r ≡ metricsReply (metricsWords given) → replied r p ≡ behind (fromNumbers x) p
+      go (Refused k) h f = absurd (refused-number (metricsRefused x) k _ h (sym (ap (λ (s : MetricsReply). s .refused) f) ∙ z))
+      go (Of s) h f = ap (λ (t : MetricsReply). replied t p) f ∙ replied-word (inBits s) p ∙ word-bits x (inBits s) (ap metricsWords h) p
+
 -- ---- The printed line
 
 abbrev in-column : List ℕ → Rate → ℕ
@@ -188,6 +222,9 @@ behind-bits (in-bytes x before after e) cE = place-bits x before after e cE
 behind-bits (for-c a ae second b be bases errors before after e) aE = place-bits (input a ae (yes second) b be bases errors) before after e aE
 behind-bits (for-c a ae second b be bases errors before after e) bE = place-bits (input a ae (yes second) b be bases errors) before after e bE
 behind-bits (for-c a ae second b be bases errors before after e) cE = place-bits (input a ae (yes second) b be bases errors) before after e cE
+behind-bits (in-reply a ae second b be bases errors r e z) aE = reply-bits (input a ae (choices.yes second) b be bases errors) r e z aE
+behind-bits (in-reply a ae second b be bases errors r e z) bE = reply-bits (input a ae (choices.yes second) b be bases errors) r e z bE
+behind-bits (in-reply a ae second b be bases errors r e z) cE = reply-bits (input a ae (choices.yes second) b be bases errors) r e z cE
 behind-bits (printed bytes line own t f) aE = column-bits bytes line own t f aE
 behind-bits (printed bytes line own t f) bE = column-bits bytes line own t f bE
 behind-bits (printed bytes line own t f) cE = column-bits bytes line own t f cE

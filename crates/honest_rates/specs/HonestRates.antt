@@ -27,6 +27,9 @@ use Rattle.metrics_bits.specs.declared.MetricsBits.{MetricsBits}
 use Rattle.metrics_bits.specs.declared.MetricsWords.the-variants.{Of as Of-bits}
 use Rattle.c_metrics.specs.Bytes.{MetricsEntry, seen}
 use Rattle.c_interface.specs.Entry.{yes}
+use Rattle.replies.specs.Choices as choices
+use Rattle.rust_metrics.specs.Answers.{metricsReply}
+use Rattle.rust_metrics.specs.declared.MetricsReply.{MetricsReply}
 use Rattle.line_output.specs.Text.{ascii}
 use Rattle.line_record.specs.declared.Line.{Line}
 use Rattle.line_molecule.specs.Line.{textOf, TextIn}
@@ -60,6 +63,12 @@ pub data Returned : Type 0 where
       (a a-errors : List ℕ) (second : ℕ) (b b-errors bases errors before after : List ℕ)
       → MetricsEntry (seen (input a a-errors (yes second) b b-errors bases errors)) before after 0
       → Returned
+  -- `gedrashiw_duplex_metrics`, accepted
+  in-reply :
+      (a a-errors : List ℕ) (second : ℕ) (b b-errors bases errors : List ℕ) (r : MetricsReply)
+      → r ≡ metricsReply (metricsWords (metricsOf (input a a-errors (choices.yes second) b b-errors bases errors)))
+      → r .refused ≡ 0
+      → Returned
   -- `duplex_line`, all that duplexline prints, where the line is a record's
   printed : (bytes : List ℕ) (line : Line) (own : Own) → TextIn (textOf bytes) line → column 0 (text line) ≡ word own → Returned
 
@@ -83,6 +92,9 @@ bits (in-bytes given before after e) cE = numberOf (take 4 (drop 32 after))
 bits (for-c a ae second b be bases errors before after e) aE = numberOf (take 4 (drop 8 after))
 bits (for-c a ae second b be bases errors before after e) bE = numberOf (take 4 (drop 20 after))
 bits (for-c a ae second b be bases errors before after e) cE = numberOf (take 4 (drop 32 after))
+bits (in-reply a ae second b be bases errors r e f) aE = r .aE
+bits (in-reply a ae second b be bases errors r e f) bE = r .bE
+bits (in-reply a ae second b be bases errors r e f) cE = r .cE
 bits (printed bytes line own e f) aE = hexadecimal.valueOf (column 7 (text line))
 bits (printed bytes line own e f) bE = hexadecimal.valueOf (column 10 (text line))
 bits (printed bytes line own e f) cE = hexadecimal.valueOf (column 13 (text line))
@@ -122,6 +134,7 @@ over (floats given r e) = fromNumbers given
 over (in-bits given r e) = fromNumbers given
 over (in-bytes given before after e) = fromBytes (given .a) (given .a-errors) (given .second) (given .b) (given .b-errors) (given .errors)
 over (for-c a ae second b be bases errors before after e) = fromBytes a ae (yes second) b be errors
+over (in-reply a ae second b be bases errors r e f) = fromNumbers (input a ae (choices.yes second) b be bases errors)
 over (printed bytes line own e f) = fromMolecule bytes own (length (column 2 (text line))) (numbersIn (column 4 (text line)))
 
 -- A depth or an error at a position, capped.
