@@ -4,12 +4,12 @@
 --     numbers-back                                 numbers with commas between them are read back
 --     none-word, refused-word                      what stands for a kind in the other two texts
 -- Assumes nothing.
-use mathlib.Core.Path.{_≡_, refl, sym, ap, _∙_}
-use mathlib.Core.Bool.{Bool, true, false, cond, not, _&&_, _||_}
+use mathlib.Core.Path.{_≡_, refl, ap, _∙_}
+use mathlib.Core.Bool.{Bool, true, false, cond, not, _&&_}
 use mathlib.Core.List.{List, [], _∷_, _++_, map, append-assoc, append-nil}
 use Prim.Native.Nat.{ℕ, _+_, _-_, _≤_, _<_}
 use native.Mathlib.Omega.{arith}
-use borrow.Author.Tests.{ne-eqb, not-true, leb-true, ltb-true, ltb-false}
+use borrow.Author.Tests.{ne-eqb, not-true, leb-true}
 use lib.Dec.{eqb, leb, ltb}
 use lib.ListN.{length, drop, getD, length-append}
 use Rattle.lists.specs.Every.{every}
@@ -24,7 +24,7 @@ use Rattle.line_metrics.specs.MetricsText.{field, rateField, figuresText, metri
 use Rattle.line_format.specs.Line.{Columns, header, kindText, gateText, columnsText, opening, closing, lineText, noneText, refusedText}
 use Rattle.line_format.specs.declared.Kind.{Kind}
 use Rattle.line_format.specs.declared.Kind.the-variants.{Ab, Ba, Both}
-use Rattle.honest_rates.specs.Text.{joined, split, endsWord, column, endsNumber, numbersIn}
+use Rattle.honest_rates.specs.Text.{split, endsWord, column, endsNumber, numbersIn}
 
 -- ---- Words
 
