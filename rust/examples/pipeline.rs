@@ -4,8 +4,8 @@
 use gedrashiw::caller::write_consensus_read_name;
 use gedrashiw::methylation::{ConversionPattern, annotate_simplex_methylation, duplex_methylation_tags};
 use gedrashiw::{
-    DuplexConsensusCaller, DuplexConsensusRead, MethylationAnnotation, MethylationMode, MiPart, ReadType, Refusal, SourceReadBuffer,
-    SourceReads, VanillaConsensusRead,
+    DuplexConsensusCaller, DuplexConsensusRead, MethylationAnnotation, MethylationMode, MiPart, ReadType, Refusal,
+    SourceReadBuffer, SourceReads, VanillaConsensusRead,
 };
 
 /// A read: its MI, flags and bases as they were sequenced. The molecule's R1 record is of the first reads of strand A and the last
