@@ -25,21 +25,22 @@ module _ (reads : List SourceRead) (bytes : List ℕ) (ct : CtInput) (basesA qua
   pub none-asked : (errors : List ℕ) → countedErrors reads bytes ct 0 basesA qualsA basesB qualsB errors ≡ errors
   unfolding countedErrors addedErrors tabulate put
   none-asked errors =
-      let none : countedLength 0 basesA qualsA basesB qualsB errors ≡ 0 = omega (arith, smallest-le (0 ∷ length basesA ∷ length qualsA ∷ length basesB ∷ length qualsB ∷ length errors ∷ []) 0 (lit< tt)) in
+      let none : countedLength 0 basesA qualsA basesB qualsB errors ≡ 0 = omega (arith, smallest-le (0 ∷ length basesA ∷ length qualsA ∷ length basesB ∷ length qualsB ∷ length errors ∷ 1024 ∷ []) 0 (lit< tt)) in
       ap (λ (n : ℕ). addedErrors n bytes (expectedAt ct basesA qualsA basesB qualsB) reads errors) none
 
-  -- The arrays reach n positions.
+  -- The arrays reach n positions, which a strand may have.
   pub record Reach (n : ℕ) (errors : List ℕ) : Type 0 where
     pub a : n ≤ length basesA
     pub qa : n ≤ length qualsA
     pub b : n ≤ length basesB
     pub qb : n ≤ length qualsB
     pub own : n ≤ length errors
+    pub few : n ≤ 1024
 
   as-asked : (n : ℕ) (errors : List ℕ) → Reach n errors → countedLength n basesA qualsA basesB qualsB errors ≡ n
   as-asked n errors f =
       let itself : n ≤ n = omega arith in
-      rw (min-eq-left itself, min-eq-left (f .a), min-eq-left (f .qa), min-eq-left (f .b), min-eq-left (f .qb), min-eq-left (f .own))
+      rw (min-eq-left itself, min-eq-left (f .a), min-eq-left (f .qa), min-eq-left (f .b), min-eq-left (f .qb), min-eq-left (f .own), min-eq-left (f .few))
 
   pub from-zeros : (n : ℕ) (before : List ℕ) {zs : List ℕ} → Reach n before → length reads ≤ 65535 → zs ≡ put (tabulate n uncounted) before
       → countedErrors reads bytes ct n basesA qualsA basesB qualsB zs ≡ put (tabulate n (λ i. readErrors bytes (expectedAt ct basesA qualsA basesB qualsB i) i reads)) before
@@ -48,7 +49,7 @@ module _ (reads : List SourceRead) (bytes : List ℕ) (ct : CtInput) (basesA qua
       let expected = expectedAt ct basesA qualsA basesB qualsB in
       let as-long : length zs ≡ length before = ap length e ∙ length-put (tabulate n uncounted) before (omega (arith, length-tabulate n uncounted, f .own)) in
       let room : n ≤ length zs = omega (arith, f .own) in
-      let reach : Reach n zs = record { a = f .a; qa = f .qa; b = f .b; qb = f .qb; own = room } in
+      let reach : Reach n zs = record { a = f .a; qa = f .qa; b = f .b; qb = f .qb; own = room; few = f .few } in
       ap (λ (m : ℕ). addedErrors m bytes expected reads zs) (as-asked n zs reach)
       ∙ put-equal zs (tabulate-equal n (λ i. foldl (addError bytes (expected i) i) (getD zs i 0) reads) (λ i. readErrors bytes (expected i) i reads) (λ i l. ap (λ (z : ℕ). foldl (addError bytes (expected i) i) z reads) (zero i l) ∙ as-counted bytes (expected i) i reads few))
       ∙ ap (λ (l : List ℕ). put (tabulate n (λ i. readErrors bytes (expected i) i reads)) l) e

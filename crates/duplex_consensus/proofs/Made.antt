@@ -16,10 +16,11 @@ use Rattle.lists.specs.Output.{unless, answer, put, after}
 use Rattle.lists.specs.Table.{tabulate}
 use Rattle.lists.proofs.Output.{put-equal}
 use Rattle.lists.proofs.Table.{tabulate-equal}
-use Rattle.refusals.specs.Refusal.{Fault, _if_, refusal, TooManyReads, OutputTooShort}
+use Rattle.refusals.specs.Refusal.{Fault, _if_, refusal, tooLong, TooManyReads, OutputTooShort}
+use Rattle.refusals.proofs.Condition.{nor-where, not-too-long}
 use Rattle.refusals.proofs.Refusal.{and-then, passed}
 use Rattle.caller.specs.Short.{short}
-use Rattle.vanilla_caller.specs.Strand.{lengths}
+use Rattle.vanilla_caller.specs.Strand.{lengths, four, strandTooLong}
 use Rattle.vanilla_caller.proofs.Strand.{even}
 use Rattle.duplex_molecule.specs.Molecule.{ctInput}
 use Rattle.duplex_molecule.specs.declared.CtInput.{CtInput}
@@ -48,6 +49,11 @@ none-first first others z = go (eqb first 0) refl z
 -- A strand that passes row 8 has as many qualities as bases.
 as-many : (s : Strand) → Passes s → length (s .arrays .quals) ≡ positions s
 as-many s p = even (annotated s) (lengths (s .arrays)) (p .not-uneven) .own .0
+
+-- A strand that passes has no more positions than it may have.
+no-longer : (s : Strand) → Passes s → positions s ≤ 1024
+unfolding strandTooLong
+no-longer s p = not-too-long (four (lengths (s .arrays))) (nor-where (tooLong (four (lengths (s .arrays)))) (annotated s) _ (p .not-long) .0) .0
 
 module _ (a b : Strand) (reads : List SourceRead) (bytes : List ℕ) (before : RecordArrays) where
   abbrev outside : Bool
@@ -96,6 +102,7 @@ module _ (a b : Strand) (reads : List SourceRead) (bytes : List ℕ) (before : R
           b = omega arith;
           qb = omega (arith, as-many b passes-b);
           own = room;
+          few = omega (arith, no-longer a passes-a);
         }
 
     -- The number of errors is held by itself.

@@ -2,7 +2,7 @@
 // and the entry points for C have it, is whole fields of the tag-length-value encoding, each a read. A read's bases stay a part of it.
 // Uses lists, refusals, fields, molecule_fields, duplex_molecule and source_reads.
 ghost use mathlib.Core.Path.{_≡_};
-ghost use Rattle.source_reads.specs.Reads.{countedErrors};
+ghost use Rattle.source_reads.specs.Reads.{shownErrors, countedErrors};
 ghost use Rattle.molecule_reads.specs.Run.{readsOf, nextRead, CountedAs};
 use duplex_molecule::CtInput;
 use fields::NextField;
@@ -11,6 +11,8 @@ use molecule_fields::is_read;
 use molecule_fields::read_flags;
 use source_reads::SourceRead;
 use source_reads::add_read_errors;
+use source_reads::counted_length;
+use source_reads::expected_bases;
 
 pub enum NextRead {
     // No bytes are left.
@@ -76,8 +78,26 @@ pub fn count_reads(run: &[u8]) -> ReadCount
     }
 }
 
-// Adds the errors of each read of a run at the first positions: as many as are asked for, and no more than each array has. Of a
-// broken run, the reads before the break count.
+// Adds the errors of each read of a run at the first positions: as many as are asked for, and no more than each array has. `first`
+// is what reads without the flag 0x80 should show, `last` what those with it should.
+fn count_shown_run(run: &[u8], positions: usize, first: &[u8], last: &[u8], errors: &mut [u16])
+    ensures { λ _. ⌜ now (errors .exit) ≡ shownErrors (readsOf (now (run .entry))) (now (run .entry)) positions (now (first .entry)) (now (last .entry)) (now (errors .entry)) ⌝ }
+{
+    let mut place = 0;
+    loop {
+        match next_read(run, place) {
+            NextRead::End => return,
+            NextRead::Broken => return,
+            NextRead::Read { read, next } => {
+                add_read_errors(read, run, positions, first, last, errors);
+                place = next;
+            }
+        }
+    }
+}
+
+// Adds the errors of each read of a run at the first positions: as many as are asked for, no more than each array has, and no more
+// than a strand may have. Of a broken run, the reads before the break count.
 pub fn count_run_errors(
     run: &[u8],
     ct: CtInput,
@@ -90,25 +110,15 @@ pub fn count_run_errors(
 )
     ensures { λ _. ⌜ now (errors .exit) ≡ countedErrors (readsOf (now (run .entry))) (now (run .entry)) ct positions (now («a_bases» .entry)) (now («a_quals» .entry)) (now («b_bases» .entry)) (now («b_quals» .entry)) (now (errors .entry)) ⌝ }
 {
-    let mut place = 0;
-    loop {
-        match next_read(run, place) {
-            NextRead::End => return,
-            NextRead::Broken => return,
-            NextRead::Read { read, next } => {
-                add_read_errors(
-                    read,
-                    run,
-                    ct,
-                    positions,
-                    a_bases,
-                    a_quals,
-                    b_bases,
-                    b_quals,
-                    errors,
-                );
-                place = next;
-            }
-        }
-    }
+    let n = counted_length(
+        positions,
+        a_bases.len(),
+        a_quals.len(),
+        b_bases.len(),
+        b_quals.len(),
+        errors.len(),
+    );
+    let first = expected_bases(ct, false, n, a_bases, a_quals, b_bases, b_quals);
+    let last = expected_bases(ct, true, n, a_bases, a_quals, b_bases, b_quals);
+    count_shown_run(run, n, &first, &last, errors);
 }

@@ -1,4 +1,4 @@
--- The bases of one read beside two strands and the errors counted so far.
+-- The bases of one read, what it should show, and the errors counted so far.
 use Prim.Native.Nat.{ℕ, _≤_}
 use mathlib.Core.List.{List}
 use lib.ListN.{length, getD}
@@ -13,13 +13,12 @@ abbrev pub unmaskedAt : List ℕ → List ℕ → List ℕ → List ℕ → ℕ 
 unmaskedAt basesA qualsA basesB qualsB i = uncalled (getD basesA i 0) (getD qualsA i 0) (getD basesB i 0) (getD qualsB i 0) .raw
 
 -- Each has at least n places.
-pub record Within (n : ℕ) (bases basesA qualsA basesB qualsB errors : List ℕ) : Type 0 where
-  pub own : n ≤ length bases
+pub record Within (n : ℕ) (basesA qualsA basesB qualsB out : List ℕ) : Type 0 where
   pub a : n ≤ length basesA
   pub qa : n ≤ length qualsA
   pub b : n ≤ length basesB
   pub qb : n ≤ length qualsB
-  pub counted : n ≤ length errors
+  pub own : n ≤ length out
 
 -- The errors of the first n bases, each against what should be shown there, added to the numbers.
 unfoldable pub basesErrors : ℕ → List ℕ → (ℕ → ℕ) → List ℕ → List ℕ

@@ -3,7 +3,7 @@ use Prim.Native.Nat.{ℕ, _+_}
 use mathlib.Core.Bool.{Bool, false, cond, not, _&&_, _||_}
 use mathlib.Core.List.{List, [], _∷_, foldl}
 use lib.Dec.{ltb}
-use lib.ListN.{length, getD}
+use lib.ListN.{length, getD, replicate}
 use Rattle.lists.specs.Count.{countOf}
 use Rattle.lists.specs.Output.{put}
 use Rattle.lists.specs.Part.{leaves}
@@ -56,12 +56,27 @@ addedErrors n bytes expected reads errors = put (tabulate n (λ i. foldl (addErr
 abbrev pub expectedAt : CtInput → List ℕ → List ℕ → List ℕ → List ℕ → ℕ → Bool → ℕ
 expectedAt ct basesA qualsA basesB qualsB i = expected ct (getD basesA i 0) (getD qualsA i 0) (getD basesB i 0) (getD qualsB i 0)
 
--- As many positions as are asked for, and no more than each array has.
+-- As many positions as are asked for, no more than each array has, and no more than row 7 lets a strand have.
 abbrev pub countedLength : ℕ → List ℕ → List ℕ → List ℕ → List ℕ → List ℕ → ℕ
 countedLength positions basesA qualsA basesB qualsB errors =
-    smallest (positions ∷ length basesA ∷ length qualsA ∷ length basesB ∷ length qualsB ∷ length errors ∷ [])
+    smallest (positions ∷ length basesA ∷ length qualsA ∷ length basesB ∷ length qualsB ∷ length errors ∷ 1024 ∷ [])
 
 -- What a count of some reads leaves where these errors were.
 unfoldable pub countedErrors : List SourceRead → List ℕ → CtInput → ℕ → List ℕ → List ℕ → List ℕ → List ℕ → List ℕ → List ℕ
 countedErrors reads bytes ct positions basesA qualsA basesB qualsB errors =
     addedErrors (countedLength positions basesA qualsA basesB qualsB errors) bytes (expectedAt ct basesA qualsA basesB qualsB) reads errors
+
+-- What the reads with flag 0x80, or those without it, should show at the first positions, and 0 behind them.
+unfoldable pub expectedBases : CtInput → Bool → ℕ → List ℕ → List ℕ → List ℕ → List ℕ → List ℕ
+expectedBases ct last positions basesA qualsA basesB qualsB =
+    put
+    (tabulate (smallest (positions ∷ length basesA ∷ length qualsA ∷ length basesB ∷ length qualsB ∷ 1024 ∷ 1024 ∷ [])) (λ i. expectedAt ct basesA qualsA basesB qualsB i last))
+    (replicate 1024 0)
+
+-- What a read should show at position i, by what those without flag 0x80 should show and those with it.
+abbrev pub shownAt : List ℕ → List ℕ → ℕ → Bool → ℕ
+shownAt first last i flagged = getD (cond flagged last first) i 0
+
+-- What a count of some reads leaves, by these.
+unfoldable pub shownErrors : List SourceRead → List ℕ → ℕ → List ℕ → List ℕ → List ℕ → List ℕ
+shownErrors reads bytes positions first last errors = addedErrors (smallest (positions ∷ length first ∷ length last ∷ length errors ∷ [])) bytes (shownAt first last) reads errors
