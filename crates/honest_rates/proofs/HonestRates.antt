@@ -32,8 +32,7 @@ use Rattle.metrics_bits.specs.declared.MetricsBits.{MetricsBits}
 use Rattle.metrics_bits.specs.declared.MetricsWords.the-variants.{Of as Of-bits}
 use Rattle.c_metrics.specs.Bytes.{MetricsEntry, seen, decoded, oddCounts, recordWords, metricsBytes}
 use Rattle.c_metrics.proofs.Bytes.{clear}
-use Rattle.c_interface.specs.Entry.{yes}
-use Rattle.replies.specs.Choices as choices
+use Rattle.replies.specs.Choices.{yes}
 use Rattle.rust_metrics.specs.Answers.{metricsReply}
 use Rattle.rust_metrics.specs.declared.MetricsReply.{MetricsReply}
 use Rattle.line_output.proofs.Text.{length-printed}
@@ -222,9 +221,9 @@ behind-bits (in-bytes x before after e) cE = place-bits x before after e cE
 behind-bits (for-c a ae second b be bases errors before after e) aE = place-bits (input a ae (yes second) b be bases errors) before after e aE
 behind-bits (for-c a ae second b be bases errors before after e) bE = place-bits (input a ae (yes second) b be bases errors) before after e bE
 behind-bits (for-c a ae second b be bases errors before after e) cE = place-bits (input a ae (yes second) b be bases errors) before after e cE
-behind-bits (in-reply a ae second b be bases errors r e z) aE = reply-bits (input a ae (choices.yes second) b be bases errors) r e z aE
-behind-bits (in-reply a ae second b be bases errors r e z) bE = reply-bits (input a ae (choices.yes second) b be bases errors) r e z bE
-behind-bits (in-reply a ae second b be bases errors r e z) cE = reply-bits (input a ae (choices.yes second) b be bases errors) r e z cE
+behind-bits (in-reply a ae second b be bases errors r e z) aE = reply-bits (input a ae (yes second) b be bases errors) r e z aE
+behind-bits (in-reply a ae second b be bases errors r e z) bE = reply-bits (input a ae (yes second) b be bases errors) r e z bE
+behind-bits (in-reply a ae second b be bases errors r e z) cE = reply-bits (input a ae (yes second) b be bases errors) r e z cE
 behind-bits (printed bytes line own t f) aE = column-bits bytes line own t f aE
 behind-bits (printed bytes line own t f) bE = column-bits bytes line own t f bE
 behind-bits (printed bytes line own t f) cE = column-bits bytes line own t f cE

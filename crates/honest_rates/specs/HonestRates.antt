@@ -26,8 +26,7 @@ use Rattle.metrics_bits.specs.Bits.{metricsWords}
 use Rattle.metrics_bits.specs.declared.MetricsBits.{MetricsBits}
 use Rattle.metrics_bits.specs.declared.MetricsWords.the-variants.{Of as Of-bits}
 use Rattle.c_metrics.specs.Bytes.{MetricsEntry, seen}
-use Rattle.c_interface.specs.Entry.{yes}
-use Rattle.replies.specs.Choices as choices
+use Rattle.replies.specs.Choices.{yes}
 use Rattle.rust_metrics.specs.Answers.{metricsReply}
 use Rattle.rust_metrics.specs.declared.MetricsReply.{MetricsReply}
 use Rattle.line_output.specs.Text.{ascii}
@@ -66,7 +65,7 @@ pub data Returned : Type 0 where
   -- `gedrashiw_duplex_metrics`, accepted
   in-reply :
       (a a-errors : List ℕ) (second : ℕ) (b b-errors bases errors : List ℕ) (r : MetricsReply)
-      → r ≡ metricsReply (metricsWords (metricsOf (input a a-errors (choices.yes second) b b-errors bases errors)))
+      → r ≡ metricsReply (metricsWords (metricsOf (input a a-errors (yes second) b b-errors bases errors)))
       → r .refused ≡ 0
       → Returned
   -- `duplex_line`, all that duplexline prints, where the line is a record's
@@ -134,7 +133,7 @@ over (floats given r e) = fromNumbers given
 over (in-bits given r e) = fromNumbers given
 over (in-bytes given before after e) = fromBytes (given .a) (given .a-errors) (given .second) (given .b) (given .b-errors) (given .errors)
 over (for-c a ae second b be bases errors before after e) = fromBytes a ae (yes second) b be errors
-over (in-reply a ae second b be bases errors r e f) = fromNumbers (input a ae (choices.yes second) b be bases errors)
+over (in-reply a ae second b be bases errors r e f) = fromNumbers (input a ae (yes second) b be bases errors)
 over (printed bytes line own e f) = fromMolecule bytes own (length (column 2 (text line))) (numbersIn (column 4 (text line)))
 
 -- A depth or an error at a position, capped.
