@@ -6,6 +6,7 @@ use mathlib.Core.Bool.{cond}
 use lib.Dec.{eqb}
 use Rattle.duplex_kind.specs.declared.DuplexConsensus.{DuplexConsensus}
 use Rattle.duplex_kind.specs.declared.DuplexConsensus.the-variants.{Refused, NoRecord, Ab, Ba, Both}
+use Rattle.replies.specs.ReadBack.{TellsBack}
 use Rattle.duplex_reply.specs.Reply.{recordFor}
 use Rattle.duplex_reply.specs.declared.DuplexRecord.{DuplexRecord}
 
@@ -14,9 +15,8 @@ abbrev pub recordBack : DuplexRecord → DuplexConsensus
 recordBack r =
     cond (eqb (r .kind) 1) (Ab (r .positions)) (cond (eqb (r .kind) 2) (Ba (r .positions)) (cond (eqb (r .kind) 3) (Both (r .positions)) NoRecord))
 
-pub record Told (x : DuplexConsensus) : Type 0 where
-  pub passes : recordFor x .refused ≡ 0
-  pub answers : recordBack (recordFor x) ≡ x
+abbrev pub Told : DuplexConsensus → Type 0
+Told = TellsBack recordFor (λ (r : DuplexRecord). r .refused) recordBack
 
 pub record ReadBack : Type 0 where
   pub refusals : (n : ℕ) → recordFor (Refused n) .refused ≡ n

@@ -1,4 +1,4 @@
-// The kind of a duplex record and its length as numbers, for the entry points that programs link. Uses duplex_kind.
+// The kind of a duplex record and its length as numbers, for the entry points that programs link. Uses replies and duplex_kind.
 ghost use mathlib.Core.Path.{_≡_};
 ghost use Rattle.duplex_reply.specs.Reply.{recordFor};
 use duplex_kind::DuplexConsensus;
