@@ -7,8 +7,6 @@ use Rattle.lists.specs.Output.{answer, after}
 use Rattle.methylation.specs.declared.Annotation.{Annotation}
 use Rattle.methylation.specs.declared.ConversionPattern.{ConversionPattern}
 use Rattle.methylation.specs.declared.MethylationMode.{MethylationMode}
-use Rattle.replies.specs.Replies.{notCounted, counted}
-use Rattle.replies.specs.declared.Count.{Count}
 use Rattle.methylation_evidence.specs.declared.Positions.{Positions}
 use Rattle.methylation_evidence.specs.declared.Positions.the-variants.{Refused, Written}
 use Rattle.methylation_restore.specs.Restore.{restored, restoreRefused, strandBases, strandRefused}
@@ -24,10 +22,6 @@ use Rattle.duplex_tags.specs.declared.DuplexMethylationTags.{DuplexMethylationT
 use Rattle.duplex_tags.specs.declared.DuplexMethylationTags.the-variants as duplex
 use Rattle.rust_methylation.specs.declared.TagsReply.{TagsReply}
 use Rattle.rust_methylation.specs.declared.DuplexTagsReply.{DuplexTagsReply}
-
-abbrev pub positionsReply : Positions → Count
-positionsReply (Refused number) = notCounted number
-positionsReply (Written n) = counted n
 
 -- `tagged` 0: no tag; 1: the lengths of its parts.
 abbrev pub tagsReply : ℕ → ℕ → ℕ → ℕ → TagsReply

@@ -1,15 +1,16 @@
 // The entry points over the methylation calls: numbers and native slices, choices and answers as numbers. A number that stands for
-// nothing is refused as 13, before all else. Uses refusals, methylation, replies, methylation_evidence, methylation_restore, mm_ml and
-// duplex_tags.
+// nothing is refused as 13, before all else. Uses refusals, methylation, replies, methylation_evidence, methylation_restore, mm_ml,
+// duplex_tags and rust_strand.
 ghost use mathlib.Core.Path.{_≡_};
 ghost use mathlib.Core.Bool.{_||_};
 ghost use Rattle.replies.specs.Choices.{annotationOf, patternOf, modeOf, wrongAnnotation, wrongPattern, wrongMode};
 ghost use Rattle.replies.specs.Replies.{notCounted, RepliedAs};
+ghost use Rattle.rust_strand.specs.Answers.{positionsCount};
 ghost use Rattle.mm_ml.specs.Tags.{annotated, MmTaggedAs};
 ghost use Rattle.duplex_texts.specs.Texts.{strand, textArrays};
 ghost use Rattle.duplex_tags.specs.Tags.{countArrays};
 ghost use Rattle.duplex_tags.specs.declared.DuplexMethylationTags.the-variants.{Refused};
-ghost use Rattle.rust_methylation.specs.Entries.{positionsReply, tagsReply, mmMlReply, mmReply, duplexTagsReply, RestoredAs, StrandBasesAs, tagArrays, duplexArrays, TagsAs, DuplexTagsAs};
+ghost use Rattle.rust_methylation.specs.Entries.{tagsReply, mmMlReply, mmReply, duplexTagsReply, RestoredAs, StrandBasesAs, tagArrays, duplexArrays, TagsAs, DuplexTagsAs};
 use duplex_tags::DuplexMethylationTags;
 use duplex_tags::duplex_methylation_tags;
 use methylation_evidence::Positions;
@@ -27,6 +28,7 @@ use replies::pattern_of;
 use replies::wrong_annotation;
 use replies::wrong_mode;
 use replies::wrong_pattern;
+use rust_strand::positions_count;
 
 // Of a strand's tags: `refused` is the refusal's number; where it is 0, `tagged` is 1 where there is a tag, of such lengths, else 0.
 #[repr(C)]
@@ -46,21 +48,6 @@ pub struct DuplexTagsReply {
     pub bMm: usize,
     pub mm: usize,
     pub ml: usize,
-}
-
-fn positions_reply(r: Positions) -> Count
-    ensures { λ s. ⌜ s ≡ positionsReply r ⌝ }
-{
-    match r {
-        Positions::Refused(number) => Count {
-            refused: number,
-            count: 0,
-        },
-        Positions::Written(n) => Count {
-            refused: 0,
-            count: n,
-        },
-    }
 }
 
 fn mm_ml_reply(r: MmMl) -> TagsReply
@@ -149,14 +136,14 @@ pub extern "C" fn gedrashiw_restore_unconverted_bases(
     pattern: u8,
     marks: &[u8],
 ) -> Count
-    ensures { λ r. ⌜ RepliedAs (wrongPattern pattern) (notCounted 13) positionsReply (RestoredAs (patternOf pattern) (now (marks .entry)))
+    ensures { λ r. ⌜ RepliedAs (wrongPattern pattern) (notCounted 13) positionsCount (RestoredAs (patternOf pattern) (now (marks .entry)))
         (now («consensus_bases» .entry)) (now («consensus_bases» .exit)) r ⌝ }
 {
     if wrong_pattern(pattern) {
-        return positions_reply(Positions::Refused(BROKEN));
+        return positions_count(Positions::Refused(BROKEN));
     }
     let told = pattern_of(pattern);
-    positions_reply(restore_unconverted_bases(consensus_bases, told, marks))
+    positions_count(restore_unconverted_bases(consensus_bases, told, marks))
 }
 
 // A strand's bases as its tag shows them: restored by its annotation; without one, as they are.
@@ -167,14 +154,14 @@ pub extern "C" fn gedrashiw_methylation_strand_bases(
     marks: &[u8],
     out: &mut [u8],
 ) -> Count
-    ensures { λ r. ⌜ RepliedAs (wrongAnnotation annotation) (notCounted 13) positionsReply (StrandBasesAs (annotationOf annotation) (now (bases .entry)) (now (marks .entry)))
+    ensures { λ r. ⌜ RepliedAs (wrongAnnotation annotation) (notCounted 13) positionsCount (StrandBasesAs (annotationOf annotation) (now (bases .entry)) (now (marks .entry)))
         (now (out .entry)) (now (out .exit)) r ⌝ }
 {
     if wrong_annotation(annotation) {
-        return positions_reply(Positions::Refused(BROKEN));
+        return positions_count(Positions::Refused(BROKEN));
     }
     let told = annotation_of(annotation);
-    positions_reply(methylation_strand_bases(bases, told, marks, out))
+    positions_count(methylation_strand_bases(bases, told, marks, out))
 }
 
 // A strand's MM and ML.

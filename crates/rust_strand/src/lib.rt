@@ -38,7 +38,8 @@ fn depth_number(r: Depth) -> Number
     }
 }
 
-fn positions_count(r: Positions) -> Count
+// How many positions were written, as a number.
+pub fn positions_count(r: Positions) -> Count
     ensures { λ s. ⌜ s ≡ positionsCount r ⌝ }
 {
     match r {
