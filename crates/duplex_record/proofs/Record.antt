@@ -1,5 +1,5 @@
 -- A record is what the call that wrote it leaves, where rows 7 to 10 are passed.
---     kind-by              the kind, from the strands' lengths
+--     kind-given, kind-by  the kind, from what is given of the strands, and from their lengths
 --     turned-down          refused by one of those rows
 --     none                 nothing is written
 --     alone-ab, alone-ba   by `gated_single_strand`, to the first strand's outputs
@@ -84,7 +84,17 @@ untouched number out = record {
 abbrev of-lengths : Strand → Lengths → GivenStrand
 of-lengths s l = record { present = s .present; annotation = s .annotation; lengths = l }
 
--- The kind that the code asked for, by the lengths that it has of the strands.
+-- The kind that the code asked for, by what it has of the strands.
+pub kind-given :
+    (a b : Strand) (listed : Bool) (count : ℕ) (leaving : Bool) {x y : GivenStrand} {k r : DuplexConsensus}
+    → x ≡ of-lengths a (lengths (a .arrays))
+    → y ≡ of-lengths b (lengths (b .arrays))
+    → k ≡ kindGiven x (a .arrays .depths) y (b .arrays .depths) listed count leaving
+    → k ≡ r
+    → recordKind a b listed count leaving ≡ r
+kind-given a b listed count leaving e f g h = sym (rw (e, f) at g) ∙ h
+
+-- The same by the lengths that it has of them.
 pub kind-by :
     (a b : Strand) (listed : Bool) (count : ℕ) (leaving : Bool) {x y : Lengths} {k r : DuplexConsensus}
     → x ≡ lengths (a .arrays)
@@ -92,7 +102,7 @@ pub kind-by :
     → k ≡ kindGiven (of-lengths a x) (a .arrays .depths) (of-lengths b y) (b .arrays .depths) listed count leaving
     → k ≡ r
     → recordKind a b listed count leaving ≡ r
-kind-by a b listed count leaving e f g h = sym (rw (e, f) at g) ∙ h
+kind-by a b listed count leaving e f g h = kind-given a b listed count leaving (ap (of-lengths a) e) (ap (of-lengths b) f) g h
 
 module _ (a b : Strand) (listed : Bool) (count : ℕ) (leaving : Bool) (before : RecordArrays) where
   abbrev given : List Fault

@@ -2,11 +2,14 @@
 // errors are counted later. Uses lists, refusals, methylation, vanilla_caller, duplex_molecule, duplex_call, duplex_outputs,
 // duplex_strands, duplex_annotated, duplex_single and duplex_kind.
 ghost use mathlib.Core.Path.{_≡_};
+ghost use mathlib.Core.Bool.{false};
+ghost use mathlib.Core.List.{[]};
+ghost use Rattle.methylation.specs.declared.Annotation.the-variants.{Absent};
 ghost use Rattle.vanilla_caller.specs.Strand.{arrays};
 ghost use Rattle.duplex_outputs.specs.Outputs.{recordOf};
 ghost use Rattle.duplex_strands.specs.Combine.{uncounted};
 ghost use Rattle.duplex_kind.specs.Kind.{strand};
-ghost use Rattle.duplex_record.specs.Parts.{abOf, baOf, bothOf};
+ghost use Rattle.duplex_record.specs.Parts.{abOf, baOf, bothOf, plainGiven};
 ghost use Rattle.duplex_record.specs.Record.{DuplexAs};
 use duplex_annotated::combine_strands_annotated;
 pub use duplex_kind::DuplexConsensus;
@@ -14,10 +17,13 @@ use duplex_kind::GivenStrand;
 use duplex_kind::record_kind;
 use duplex_single::SingleStrandRecord;
 use duplex_single::gated_single_strand;
+use duplex_single::plain_single_strand;
 use duplex_strands::Combined;
 use duplex_strands::combine_strands;
 use methylation::Annotation;
+use methylation::EvidenceLengths;
 use methylation::is_annotated;
+use vanilla_caller::Lengths;
 use vanilla_caller::lengths_of;
 
 fn ab_of(r: SingleStrandRecord) -> DuplexConsensus
@@ -199,5 +205,110 @@ pub fn duplex_record(
                 errors_out,
             ))
         }
+    }
+}
+
+// What is given of a strand without annotation, by how long its arrays are.
+fn plain_given(
+    present: bool,
+    bases: usize,
+    quals: usize,
+    depths: usize,
+    errors: usize,
+) -> GivenStrand
+    ensures { λ r. ⌜ r ≡ plainGiven present bases quals depths errors ⌝ }
+{
+    GivenStrand {
+        present,
+        annotation: Annotation::Absent,
+        lengths: Lengths {
+            bases,
+            quals,
+            depths,
+            errors,
+            evidence: EvidenceLengths {
+                marks: 0,
+                unconverted: 0,
+                converted: 0,
+            },
+        },
+    }
+}
+
+// The same of strands without annotation, of reads whose parts all stay in their buffer.
+pub fn plain_record(
+    a_present: bool,
+    a_bases: &[u8],
+    a_quals: &[u8],
+    a_depths: &[u16],
+    a_errors: &[u16],
+    b_present: bool,
+    b_bases: &[u8],
+    b_quals: &[u8],
+    b_depths: &[u16],
+    b_errors: &[u16],
+    listed: bool,
+    reads: usize,
+    bases_out: &mut [u8],
+    quals_out: &mut [u8],
+    errors_out: &mut [u16],
+) -> DuplexConsensus
+    ensures { λ r. ⌜ DuplexAs
+        (strand «a_present» Absent (arrays (now («a_bases» .entry)) (now («a_quals» .entry)) (now («a_depths» .entry)) (now («a_errors» .entry)) [] [] []))
+        (strand «b_present» Absent (arrays (now («b_bases» .entry)) (now («b_quals» .entry)) (now («b_depths» .entry)) (now («b_errors» .entry)) [] [] []))
+        listed reads false uncounted
+        (recordOf (now («bases_out» .entry)) (now («quals_out» .entry)) (now («errors_out» .entry)) [] [] [] [] [] [])
+        (recordOf (now («bases_out» .exit)) (now («quals_out» .exit)) (now («errors_out» .exit)) [] [] [] [] [] [])
+        r ⌝ }
+{
+    let a = plain_given(
+        a_present,
+        a_bases.len(),
+        a_quals.len(),
+        a_depths.len(),
+        a_errors.len(),
+    );
+    let b = plain_given(
+        b_present,
+        b_bases.len(),
+        b_quals.len(),
+        b_depths.len(),
+        b_errors.len(),
+    );
+    match record_kind(a, a_depths, b, b_depths, listed, reads, false) {
+        DuplexConsensus::Refused(number) => DuplexConsensus::Refused(number),
+        DuplexConsensus::NoRecord => DuplexConsensus::NoRecord,
+        DuplexConsensus::Ab(_) => ab_of(plain_single_strand(
+            a_bases,
+            a_quals,
+            a_depths,
+            a_errors,
+            bases_out,
+            quals_out,
+            errors_out,
+        )),
+        DuplexConsensus::Ba(_) => ba_of(plain_single_strand(
+            b_bases,
+            b_quals,
+            b_depths,
+            b_errors,
+            bases_out,
+            quals_out,
+            errors_out,
+        )),
+        DuplexConsensus::Both(_) => both_of(combine_strands(
+            a_bases,
+            a_quals,
+            a_depths,
+            a_errors,
+            b_bases,
+            b_quals,
+            b_depths,
+            b_errors,
+            listed,
+            bases_out,
+            quals_out,
+            errors_out,
+        )),
     }
 }

@@ -6,6 +6,7 @@ ghost use Prim.Native.Nat.{_≤_};
 ghost use lib.ListN.{length};
 ghost use Rattle.refusals.specs.Refusal.{refusal};
 ghost use Rattle.methylation.specs.Arrays.{evidenceArrays, PutsEvidence};
+ghost use Rattle.methylation.specs.declared.Annotation.the-variants.{Absent};
 ghost use Rattle.methylation_evidence.specs.Gate.{gated};
 ghost use Rattle.vanilla_caller.specs.Strand.{arrays};
 ghost use Rattle.duplex_outputs.specs.Outputs.{recordOf};
@@ -133,5 +134,50 @@ pub fn gated_single_strand(
         unconverted_out,
         converted_out,
     );
+    SingleStrandRecord::Written(bases.len())
+}
+
+// The same of a strand without annotation.
+pub fn plain_single_strand(
+    bases: &[u8],
+    quals: &[u8],
+    depths: &[u16],
+    errors: &[u16],
+    bases_out: &mut [u8],
+    quals_out: &mut [u8],
+    errors_out: &mut [u16],
+) -> SingleStrandRecord
+    ensures { λ r. ⌜ SingleAs Absent
+        (arrays (now (bases .entry)) (now (quals .entry)) (now (depths .entry)) (now (errors .entry)) [] [] [])
+        (recordOf (now («bases_out» .entry)) (now («quals_out» .entry)) (now («errors_out» .entry)) [] [] [] [] [] [])
+        (recordOf (now («bases_out» .exit)) (now («quals_out» .exit)) (now («errors_out» .exit)) [] [] [] [] [] [])
+        r ⌝ }
+{
+    let none = EvidenceLengths {
+        marks: 0,
+        unconverted: 0,
+        converted: 0,
+    };
+    let strand = Lengths {
+        bases: bases.len(),
+        quals: quals.len(),
+        depths: depths.len(),
+        errors: errors.len(),
+        evidence: none,
+    };
+    let out = RecordLengths {
+        bases: bases_out.len(),
+        quals: quals_out.len(),
+        errors: errors_out.len(),
+        a: none,
+        b: none,
+    };
+    let number = single_refusal(Annotation::Absent, strand, out);
+    if number != 0 {
+        return SingleStrandRecord::Refused(number);
+    }
+    copy_u8(bases, bases_out);
+    copy_u8(quals, quals_out);
+    copy_u16(errors, errors_out);
     SingleStrandRecord::Written(bases.len())
 }

@@ -1,26 +1,32 @@
 -- Laws of a strand given as bytes.
 --     narrow-whole     of at most 1,024 positions an array, nothing is cut
 --     of-seen          what was read of what is looked at, by what the code has of that
+--     numbers-seen     the same of depths and errors alone
+--     numbers-fit      what was read of these is there; plain-within: and is the strand without annotation within that size
 --     Room             five arrays of one size; read-fits, read-within: what was read to them is there, and is the strand within that size
 -- Assumes nothing.
-use mathlib.Core.Path.{_≡_, sym, ap, _∙_}
-use mathlib.Core.Bool.{Bool}
-use mathlib.Core.List.{List}
+use mathlib.Core.Path.{_≡_, refl, sym, ap, _∙_}
+use mathlib.Core.Bool.{Bool, true, false}
+use mathlib.Core.List.{List, []}
 use Prim.Native.Nat.{ℕ, _-_, _/_, _≤_, min}
 use native.Mathlib.Omega.{arith}
 use native.Mathlib.Nat.{sub-zero}
 use lib.ListN.{length, take, drop, replicate, length-take, length-replicate}
 use lib.Seq.{take-all, take-at}
 use Rattle.lists.specs.Output.{put}
+use Rattle.lists.specs.Part.{onlyIf}
+use Rattle.lists.specs.Table.{tabulate}
 use Rattle.lists.proofs.Output.{length-put}
 use Rattle.methylation.specs.declared.Annotation.{Annotation}
+use Rattle.methylation.specs.declared.Annotation.the-variants.{Absent}
 use Rattle.vanilla_caller.specs.Strand.{arrays}
 use Rattle.byte_numbers.specs.Bytes.{numberOf, words16}
 use Rattle.byte_numbers.specs.Groups.{byGroup}
 use Rattle.byte_numbers.proofs.Groups.{length-by-group}
 use Rattle.molecule_evidence.specs.Evidence.{markIn, countIn, marksOf, unconvertedOf, convertedOf}
 use Rattle.duplex_kind.specs.Kind.{strand}
-use Rattle.molecule_strand.specs.Strand.{StrandBytes, strandBytes, strandOf, strandWithin, Narrow, Numbers, numbers, ReadTo, StrandRead}
+use Rattle.molecule_strand.specs.Strand.{StrandBytes, strandBytes, strandOf, strandWithin, Narrow, Numbers, numbers, ReadTo, NumbersRead, StrandRead}
+use Rattle.molecule_strand.specs.declared.NumberCounts.{NumberCounts}
 use Rattle.molecule_strand.specs.declared.StrandCounts.{StrandCounts}
 
 -- Groups of so many bytes, of which there are few enough.
@@ -35,6 +41,9 @@ narrow-whole s h =
 
 pub of-seen : {d d' e e' v v' : List ℕ} {before now : Numbers} {r : StrandCounts} → d ≡ d' → e ≡ e' → v ≡ v' → StrandRead d e v before now r → StrandRead d' e' v' before now r
 of-seen p q s x = rw (← p, ← q, ← s) x
+
+pub numbers-seen : {d d' e e' db eb dn en : List ℕ} {r : NumberCounts} → d ≡ d' → e ≡ e' → NumbersRead d e db eb dn en r → NumbersRead d' e' db eb dn en r
+numbers-seen p q x = rw (← p, ← q) x
 
 -- The first k elements, as a slice of them has it.
 abbrev pub first : ℕ → List ℕ → List ℕ
@@ -95,3 +104,23 @@ module _ {n : ℕ} {depths errors evidence : List ℕ} {before now : Numbers} {r
       let km : r .marks ≡ min n (length evidence / 9) = h .mark-count ∙ ap (λ (k : ℕ). min k (length evidence / 9)) (o .marks) in
       rw
       (front 2 numberOf depths (before .depths) n (h .depths) (o .depths) kd, front 2 numberOf errors (before .errors) n (h .errors) (o .errors) ke, front 9 markIn evidence (before .marks) n (h .marks) (o .marks) km, front 9 (countIn 1) evidence (before .unconverted) n (h .unconverted) (o .unconverted) km, front 9 (countIn 5) evidence (before .converted) n (h .converted) (o .converted) km)
+
+-- Of no evidence there is nothing, whether it is looked at or not.
+none-within : (looked : Bool) (n : ℕ) (f : List ℕ → ℕ) → take n (byGroup 9 f (onlyIf looked [])) ≡ []
+unfolding onlyIf byGroup tabulate
+none-within true n f = take-all n [] (omega arith)
+none-within false n f = take-all n [] (omega arith)
+
+module _ {n : ℕ} {depths errors db eb dn en : List ℕ} {r : NumberCounts} (h : NumbersRead depths errors db eb dn en r) (od : length db ≡ n) (oe : length eb ≡ n) where
+  pub numbers-fit : (r .depths ≤ length dn) × (r .errors ≤ length en)
+  numbers-fit = (omega (arith, h .depth-count, od, same-room (words16 depths) db (h .depths)), omega (arith, h .error-count, oe, same-room (words16 errors) eb (h .errors)))
+
+  pub plain-within :
+      (looked present : Bool) (bases quals : List ℕ)
+      → strand present Absent (arrays bases quals (first (r .depths) dn) (first (r .errors) en) [] [] []) ≡ strandWithin n (strandBytes present Absent bases quals depths errors (onlyIf looked []))
+  unfolding strandWithin
+  plain-within looked present bases quals =
+      let kd : r .depths ≡ min n (length depths / 2) = h .depth-count ∙ ap (λ (k : ℕ). min k (length depths / 2)) od in
+      let ke : r .errors ≡ min n (length errors / 2) = h .error-count ∙ ap (λ (k : ℕ). min k (length errors / 2)) oe in
+      rw
+      (front 2 numberOf depths db n (h .depths) od kd, front 2 numberOf errors eb n (h .errors) oe ke, none-within looked n markIn, none-within looked n (countIn 1), none-within looked n (countIn 5))

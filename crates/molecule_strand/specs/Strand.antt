@@ -14,6 +14,7 @@ use Rattle.vanilla_caller.specs.Strand.{arrays}
 use Rattle.byte_numbers.specs.Bytes.{words16}
 use Rattle.molecule_evidence.specs.Evidence.{marksOf, unconvertedOf, convertedOf}
 use Rattle.duplex_kind.specs.Kind.{Strand, strand}
+use Rattle.molecule_strand.specs.declared.NumberCounts.{NumberCounts}
 use Rattle.molecule_strand.specs.declared.StrandCounts.{StrandCounts}
 
 -- An annotation, where there is one, by the number of its pattern: 0 is C to T, 1 G to A. A number above 1 is refused.
@@ -83,3 +84,10 @@ pub record StrandRead (depthBytes errorBytes evidence : List ℕ) (before now : 
   pub depth-count : r .depths ≡ min (length (before .depths)) (length depthBytes / 2)
   pub error-count : r .errors ≡ min (length (before .errors)) (length errorBytes / 2)
   pub mark-count : r .marks ≡ min (length (before .marks)) (length evidence / 9)
+
+-- The same of depths and errors alone.
+pub record NumbersRead (depthBytes errorBytes depthsBefore errorsBefore depthsNow errorsNow : List ℕ) (r : NumberCounts) : Type 0 where
+  pub depths : ReadTo (words16 depthBytes) depthsBefore depthsNow
+  pub errors : ReadTo (words16 errorBytes) errorsBefore errorsNow
+  pub depth-count : r .depths ≡ min (length depthsBefore) (length depthBytes / 2)
+  pub error-count : r .errors ≡ min (length errorsBefore) (length errorBytes / 2)

@@ -6,7 +6,7 @@ ghost use Rattle.lists.specs.Part.{onlyIf};
 ghost use Rattle.refusals.specs.Refusal.{refusal};
 ghost use Rattle.methylation.specs.Methylation.{isAnnotated};
 ghost use Rattle.molecule_strand.specs.Rows.{misfitIn, longIn, earlyFaults};
-ghost use Rattle.molecule_strand.specs.Strand.{annotationOf, numbers, StrandRead};
+ghost use Rattle.molecule_strand.specs.Strand.{annotationOf, numbers, NumbersRead, StrandRead};
 use byte_numbers::read_u16s;
 use lists::smaller;
 use methylation::Annotation;
@@ -132,5 +132,34 @@ pub fn read_strand(
         depths: depth_count,
         errors: error_count,
         marks: mark_count,
+    }
+}
+
+// How many depths and errors were read.
+pub struct NumberCounts {
+    pub depths: usize,
+    pub errors: usize,
+}
+
+// Reads as many of a strand's depths and errors as there is room for, and answers how many. An absent strand is not looked at.
+pub fn read_numbers(
+    present: bool,
+    depths: &[u8],
+    errors: &[u8],
+    depths_out: &mut [u16],
+    errors_out: &mut [u16],
+) -> NumberCounts
+    ensures { λ r. ⌜ NumbersRead (onlyIf present (now (depths .entry))) (onlyIf present (now (errors .entry)))
+        (now («depths_out» .entry)) (now («errors_out» .entry)) (now («depths_out» .exit)) (now («errors_out» .exit)) r ⌝ }
+{
+    let depths = seen_u8(present, depths);
+    let errors = seen_u8(present, errors);
+    let depth_count = smaller(depths_out.len(), depths.len() / 2);
+    let error_count = smaller(errors_out.len(), errors.len() / 2);
+    read_u16s(depths, depths_out);
+    read_u16s(errors, errors_out);
+    NumberCounts {
+        depths: depth_count,
+        errors: error_count,
     }
 }
