@@ -1,8 +1,9 @@
 -- What is promised of a call from bytes to bytes, by what the calls below leave: `from-arrays`. The arrays between them have 1,024
--- places, so that row 12 refuses only for the bytes. Assumes nothing.
+-- places, so that row 12 refuses only for the bytes; where neither strand is annotated there are none for evidence (`plain-alone`), and
+-- none is looked at (`plain-seen`). Assumes nothing.
 use mathlib.Core.Path.{_≡_, refl, sym, ap, subst, _∙_}
-use mathlib.Core.Bool.{Bool, true, false, cond}
-use mathlib.Core.List.{List, [], _∷_}
+use mathlib.Core.Bool.{Bool, true, false, cond, true≢false}
+use mathlib.Core.List.{List, [], _∷_, _++_}
 use Prim.Native.Nat.{ℕ, zero, suc}
 use native.Mathlib.Omega.{arith}
 use borrow.Author.Needs.{zero≤}
@@ -22,6 +23,8 @@ use Rattle.byte_numbers.specs.Groups.{joined}
 use Rattle.molecule_evidence.specs.Evidence.{evidenceBytes}
 use Rattle.methylation.specs.Arrays.{EvidenceArrays, evidenceArrays, evidencePlaces, PutsEvidence, LeavesEvidence}
 use Rattle.methylation.specs.Methylation.{isAnnotated}
+use Rattle.methylation.specs.declared.Annotation.{Annotation}
+use Rattle.methylation.specs.declared.Annotation.the-variants.{Absent, Of}
 use Rattle.vanilla_caller.specs.Strand.{lengths}
 use Rattle.vanilla_caller.proofs.Strand.{even}
 use Rattle.duplex_outputs.specs.Outputs.{RecordArrays, recordOf, recordLengths, recordTooShort, LeavesRecord}
@@ -34,8 +37,8 @@ use Rattle.duplex_kind.specs.declared.DuplexConsensus.the-variants.{Refused, No
 use Rattle.duplex_kind.proofs.Kind.{Passes, taken, is-ab, is-ba}
 use Rattle.duplex_record.specs.Record.{recordArrays, outputsShort, duplexFaults}
 use Rattle.molecule_reads.specs.Run.{readsOf}
-use Rattle.molecule_strand.specs.Strand.{StrandBytes, strandOf}
-use Rattle.molecule_consensus.specs.Bytes.{broken, bytesFaults, bytesRefused, inputsRefused, bytesRecord, BytesAs}
+use Rattle.molecule_strand.specs.Strand.{StrandBytes, strandBytes, strandOf}
+use Rattle.molecule_consensus.specs.Bytes.{seen, broken, bytesFaults, bytesRefused, inputsRefused, bytesRecord, BytesAs}
 use Rattle.molecule_consensus.proofs.Ample.{zeros-ample, inputs-alone}
 use Rattle.c_record.specs.Outputs.{RecordBytes, asArrays, writtenOf, shortFor, outputsRefused, evidenceFronts, fronts, WrittenAs}
 use Rattle.c_record.specs.declared.Written.{Written}
@@ -46,6 +49,34 @@ abbrev pub zeros : RecordArrays
 zeros =
     recordOf (replicate 1024 0) (replicate 1024 0) (replicate 1024 0) (replicate 1024 0) (replicate 1024 0) (replicate 1024 0) (replicate 1024 0) (replicate 1024 0)
     (replicate 1024 0)
+
+-- And where neither strand is annotated.
+abbrev pub plain-zeros : RecordArrays
+plain-zeros = recordOf (replicate 1024 0) (replicate 1024 0) (replicate 1024 0) [] [] [] [] [] []
+
+plain-short : (a b : Strand) (k : DuplexConsensus) → annotated a ≡ false → annotated b ≡ false → outputsShort a b plain-zeros k ≡ outputsShort a b zeros k
+unfolding recordTooShort
+plain-short a b (Refused m) e f = refl
+plain-short a b NoRecord e f = refl
+plain-short a b (Ab n) e f = rw e
+plain-short a b (Ba n) e f = rw f
+plain-short a b (Both n) e f = rw (e, f)
+
+plain-strand : (s : StrandBytes) → isAnnotated (s .annotation) ≡ false → annotated (strandOf s) ≡ false
+unfolding strandOf
+plain-strand s e = e
+
+pub plain-alone : (a b : StrandBytes) (listed : Bool) (run : List ℕ) → isAnnotated (a .annotation) ≡ false → isAnnotated (b .annotation) ≡ false → bytesRefused a b listed run plain-zeros ≡ inputsRefused a b listed run
+unfolding bytesFaults duplexFaults
+plain-alone a b listed run e f =
+    ap (λ (short : Bool). refusal ((Broken if broken a b listed run) ∷ (strandFaults (strandOf a) (strandOf b) listed (length (readsOf run)) false ++ (OutputTooShort if short) ∷ []))) (plain-short (strandOf a) (strandOf b) (kindOf (strandOf a) (strandOf b)) (plain-strand a e) (plain-strand b f))
+    ∙ inputs-alone a b listed run zeros zeros-ample
+
+pub plain-seen : (present : Bool) (annotation : Annotation) (bases quals depths errors evidence : List ℕ) → isAnnotated annotation ≡ false → seen (strandBytes present annotation bases quals depths errors evidence) ≡ seen (strandBytes present Absent bases quals depths errors [])
+unfolding onlyIf
+plain-seen true Absent bases quals depths errors evidence e = refl
+plain-seen false Absent bases quals depths errors evidence e = refl
+plain-seen present (Of pattern) bases quals depths errors evidence e = absurd (true≢false e)
 
 -- How long a record's arrays are.
 record SizedEvidence (n : ℕ) (e : EvidenceArrays) : Type 0 where
@@ -207,7 +238,7 @@ module _ (a b : StrandBytes) (listed : Bool) (run : List ℕ) where
       go true e = absurd (omega arith)
       go false e = e
 
-  module _ (before after-call : RecordBytes) (now : RecordArrays) (r : DuplexConsensus) where
+  module _ (before after-call : RecordBytes) (between now : RecordArrays) (r : DuplexConsensus) where
     abbrev Promised : Type 0
     Promised = ConsensusBytesAs a b listed run before after-call r
 
@@ -234,33 +265,38 @@ module _ (a b : StrandBytes) (listed : Bool) (run : List ℕ) where
         }
 
     -- Not refused for that: the arrays have the record.
-    passed-on : inputs ≡ 0 → PutsRecord (bytesRecord a b listed run) zeros now → Wrote kind → Promised
+    passed-on : inputs ≡ 0 → PutsRecord (bytesRecord a b listed run) between now → Wrote kind → Promised
     passed-on z p x =
         let w = writtenOf (annotated first) (annotated second) kind in
         let number : outputsRefused w before ≡ bytesRefused a b listed run (asArrays before) =
         ap (λ (short : Bool). refusal ((OutputTooShort if short) ∷ [])) (same-short first second (asArrays before) kind) ∙ sym (split (asArrays before) ∙ rw (eq-eqb inputs 0 z)) in
-        let written = same-fronts w (bytesRecord a b listed run) zeros now (sized first second listed _ (length (readsOf run)) kind (given-pass z) refl) p in
+        let written = same-fronts w (bytesRecord a b listed run) between now (sized first second listed _ (length (readsOf run)) kind (given-pass z) refl) p in
         record {
           answered = x .answered ∙ ap (λ (n : ℕ). answer Refused n kind) number;
           outputs = rw (← number, ← written) (x .outputs);
         }
 
-    by-inputs : {made : DuplexConsensus} (n : ℕ) → inputs ≡ n → BytesAs a b listed run zeros now made → Wrote made → Promised
-    by-inputs {made} zero e l x =
-        let passed : 0 ≡ bytesRefused a b listed run zeros = sym (inputs-alone a b listed run zeros zeros-ample ∙ e) in
+    by-inputs : {made : DuplexConsensus} (n : ℕ) → inputs ≡ n → bytesRefused a b listed run between ≡ inputs → BytesAs a b listed run between now made → Wrote made → Promised
+    by-inputs {made} zero e alone l x =
+        let passed : 0 ≡ bytesRefused a b listed run between = sym (alone ∙ e) in
         let is-kind : made ≡ kind = l .answered ∙ sym (answer-passed Refused kind passed refl) in
         passed-on e (puts passed (l .outputs)) (subst Wrote is-kind x)
-    by-inputs {made} (suc m) e l x =
-        let number : suc m ≡ bytesRefused a b listed run zeros = sym (inputs-alone a b listed run zeros zeros-ample ∙ e) in
+    by-inputs {made} (suc m) e alone l x =
+        let number : suc m ≡ bytesRefused a b listed run between = sym (alone ∙ e) in
         let is-refused : made ≡ Refused (suc m) = l .answered ∙ sym (answer-refused Refused kind number (λ z. omega arith)) in
         turned-down m e (subst Wrote is-refused x)
 
     pub from-arrays :
         {p q : Bool} {made : DuplexConsensus}
-        → BytesAs a b listed run zeros now made
+        → bytesRefused a b listed run between ≡ inputs
+        → BytesAs a b listed run between now made
         → p ≡ isAnnotated (a .annotation)
         → q ≡ isAnnotated (b .annotation)
         → WrittenAs (writtenOf p q made) made now before after-call r
         → Promised
     unfolding strandOf
-    from-arrays l e f x = by-inputs inputs refl l (rw (e, f) at x)
+    from-arrays alone l e f x = by-inputs inputs refl alone l (rw (e, f) at x)
+
+-- The same of strands that are equal.
+pub by-strands : {a a' b b' : StrandBytes} {listed : Bool} {run : List ℕ} {before now : RecordBytes} {r : DuplexConsensus} → a' ≡ a → b' ≡ b → ConsensusBytesAs a b listed run before now r → ConsensusBytesAs a' b' listed run before now r
+by-strands p q x = rw (p, q) x
