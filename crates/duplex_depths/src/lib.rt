@@ -6,8 +6,9 @@ ghost use lib.ListN.{length};
 ghost use Rattle.lists.specs.Output.{answer, put, after};
 ghost use Rattle.numbers.specs.Numbers.{largest, smallest};
 ghost use Rattle.refusals.specs.Refusal.{refusal};
-ghost use Rattle.duplex_depths.specs.Depths.{combinedDepth, combinedDepths, recordTooLong, combinedFaults, combinedRefused, depthRange};
+ghost use Rattle.duplex_depths.specs.Depths.{combinedDepths, recordTooLong, combinedFaults, combinedRefused, depthRange};
 use lists::at_u16;
+use lists::smaller;
 use numbers::max_u16;
 use numbers::min_u16;
 use numbers::saturating_add_u16;
@@ -41,19 +42,29 @@ fn combined_refusal(positions: usize, ab: usize, ba: usize, out: usize) -> u8
     refuse_if(number, out < positions, OUTPUT_TOO_SHORT)
 }
 
-fn combined_depth(ab: &[u16], ba: &[u16], i: usize) -> u16
-    ensures { λ r. ⌜ r ≡ combinedDepth (now (ab .entry)) (now (ba .entry)) i ⌝ }
-{
-    saturating_add_u16(at_u16(ab, i, 0), at_u16(ba, i, 0))
-}
-
+// To where both strands reach their depths are added; then the longer is alone, and behind it there is none.
 fn write_combined(positions: usize, ab: &[u16], ba: &[u16], out: &mut [u16])
     requires { ⌜ positions ≤ length (now out) ⌝ }
     ensures { λ _. ⌜ now (out .exit) ≡ put (combinedDepths positions (now (ab .entry)) (now (ba .entry))) (now (out .entry)) ⌝ }
 {
+    let ab_end = smaller(positions, ab.len());
+    let ba_end = smaller(positions, ba.len());
+    let both = smaller(ab_end, ba_end);
     let mut i = 0;
+    while i < both {
+        out[i] = saturating_add_u16(ab[i], ba[i]);
+        i += 1;
+    }
+    while i < ab_end {
+        out[i] = ab[i];
+        i += 1;
+    }
+    while i < ba_end {
+        out[i] = ba[i];
+        i += 1;
+    }
     while i < positions {
-        out[i] = combined_depth(ab, ba, i);
+        out[i] = 0;
         i += 1;
     }
 }
@@ -71,31 +82,18 @@ pub fn combined_depths(positions: usize, ab: &[u16], ba: &[u16], out: &mut [u16]
     CombinedDepths::Written(positions)
 }
 
-fn smallest_combined(positions: usize, ab: &[u16], ba: &[u16]) -> u16
-    ensures { λ r. ⌜ r ≡ smallest (combinedDepths positions (now (ab .entry)) (now (ba .entry))) ⌝ }
+fn extremes(depths: &[u16]) -> DepthRange
+    ensures { λ r. ⌜ r ≡ DepthRange.Range (smallest (now (depths .entry))) (largest (now (depths .entry))) ⌝ }
 {
-    if positions == 0 {
-        return 0;
-    }
-    let mut found = combined_depth(ab, ba, 0);
+    let mut min = at_u16(depths, 0, 0);
+    let mut max = 0;
     let mut i = 0;
-    while i < positions {
-        found = min_u16(found, combined_depth(ab, ba, i));
+    while i < depths.len() {
+        min = min_u16(min, depths[i]);
+        max = max_u16(max, depths[i]);
         i += 1;
     }
-    found
-}
-
-fn largest_combined(positions: usize, ab: &[u16], ba: &[u16]) -> u16
-    ensures { λ r. ⌜ r ≡ largest (combinedDepths positions (now (ab .entry)) (now (ba .entry))) ⌝ }
-{
-    let mut found = 0;
-    let mut i = 0;
-    while i < positions {
-        found = max_u16(found, combined_depth(ab, ba, i));
-        i += 1;
-    }
-    found
+    DepthRange::Range { min: min, max: max }
 }
 
 // The smallest and the largest of a record's combined depths, each 0 over no positions. Refuses by 7.
@@ -106,7 +104,7 @@ pub fn depth_range(positions: usize, ab: &[u16], ba: &[u16]) -> DepthRange
     if number != 0 {
         return DepthRange::Refused(number);
     }
-    let min = smallest_combined(positions, ab, ba);
-    let max = largest_combined(positions, ab, ba);
-    DepthRange::Range { min: min, max: max }
+    let mut depths = [0; 1024];
+    write_combined(positions, ab, ba, &mut depths);
+    extremes(&depths[0..positions])
 }
