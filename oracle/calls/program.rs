@@ -7,7 +7,7 @@ use crate::vanilla_caller::VanillaConsensusRead;
 use draw::Draw;
 use gedrashiw::duplex_caller::{Counts, combined_depths_into, depth_range, depths_have_minimum_reads, duplex_metrics};
 use gedrashiw::methylation as ours_methylation;
-use gedrashiw::{DuplexConsensusCaller as Ours, MiPart};
+use gedrashiw::{DuplexConsensusCaller as Ours, MiPart, StrandOut};
 use std::hint::black_box;
 use timing::medians;
 
@@ -143,6 +143,9 @@ fn of_strands(draw: &mut Draw) {
         each(&format!("min_depth, {n} positions"), &pairs, |(_, s)| s.min_depth(), |(x, _)| x.record.ab_consensus.min_depth());
         each(&format!("calculate_error_rate, {n} positions"), &pairs, |(_, s)| s.error_rate(), |(x, _)| calculate_error_rate(&x.a[0], &x.a[1]));
         each(&format!("padded to {} positions", n + 50), &pairs, |(_, s)| s.padded(n + 50, true, b'n', 2), |(x, _)| x.record.ab_consensus.padded(n + 50, true, b'n', 2));
+        let (mut bases, mut quals, mut depths, mut errors) = (vec![0; n + 50], vec![0; n + 50], vec![0; n + 50], vec![0; n + 50]);
+        let mut out = StrandOut { bases: &mut bases, quals: &mut quals, depths: &mut depths, errors: &mut errors, ..Default::default() };
+        each(&format!("padded_into {} positions", n + 50), &pairs, |(_, s)| s.padded_into(n + 50, true, b'n', 2, &mut out), |(x, _)| x.record.ab_consensus.padded(n + 50, true, b'n', 2));
         let mut out = vec![0; n];
         each(
             &format!("combined_depths, {n} positions"),
@@ -167,29 +170,39 @@ fn of_strands(draw: &mut Draw) {
     }
 }
 
+// Reads of a molecule with the flags of some kinds: as records, and as flags, parts and bytes.
+fn reads(draw: &mut Draw, n: usize, kinds: &[u16]) -> (Vec<RawRecord>, Vec<u16>, Vec<MiPart>, Vec<u8>) {
+    let mut bytes = Vec::new();
+    let (mut records, mut flags, mut parts) = (Vec::new(), Vec::new(), Vec::new());
+    for number in 0..n {
+        let mi = if draw.chance(2) { b"1234567/A" } else { b"1234567/B" };
+        parts.push(MiPart::new(bytes.len(), mi.len()));
+        bytes.extend(mi);
+        flags.push(draw.pick(kinds));
+        records.push(RawRecord { number, flags: flags[number], mi: Some(mi.to_vec()) });
+    }
+    (records, flags, parts, bytes)
+}
+
 fn of_reads(draw: &mut Draw) {
     for n in [20, 200] {
-        let inputs: Vec<(Vec<RawRecord>, Vec<u16>, Vec<MiPart>, Vec<u8>)> = (0..INPUTS)
-            .map(|_| {
-                let mut bytes = Vec::new();
-                let (mut records, mut flags, mut parts) = (Vec::new(), Vec::new(), Vec::new());
-                for number in 0..n {
-                    let mi = if draw.chance(2) { b"1234567/A" } else { b"1234567/B" };
-                    parts.push(MiPart::new(bytes.len(), mi.len()));
-                    bytes.extend(mi);
-                    flags.push(draw.pick(&[0x41, 0x81, 0x51, 0x91]));
-                    records.push(RawRecord { number, flags: flags[number], mi: Some(mi.to_vec()) });
-                }
-                (records, flags, parts, bytes)
-            })
-            .collect();
+        let inputs: Vec<_> = (0..INPUTS).map(|_| reads(draw, n, &[0x41, 0x81, 0x51, 0x91])).collect();
         each(
             &format!("read gate, two lists of {n} reads"),
             &inputs,
             |(_, flags, ..)| Ours::has_minimum_number_of_reads(flags, flags, &[5, 3, 1]),
             |(records, ..)| DuplexConsensusCaller::has_minimum_number_of_reads(records, records, 5, 3, 1),
         );
-        each(&format!("are_all_same_strand, {n} reads"), &inputs, |(_, flags, ..)| Ours::are_all_same_strand(flags), |(records, ..)| DuplexConsensusCaller::are_all_same_strand(records.iter()));
+        // As a molecule's lists are, in which no read differs; and lists whose first reads differ already.
+        let alike: Vec<_> = (0..INPUTS).map(|_| reads(draw, n, &[0x41, 0x81])).collect();
+        for (list, inputs) in [("alike", &alike), ("mixed", &inputs)] {
+            each(
+                &format!("are_all_same_strand, {n} reads, {list}"),
+                inputs,
+                |(_, flags, ..)| Ours::are_all_same_strand(flags),
+                |(records, ..)| DuplexConsensusCaller::are_all_same_strand(records.iter()),
+            );
+        }
         let copied = |records: &[RawRecord]| records.iter().map(|r| RawRecord { number: r.number, flags: r.flags, mi: r.mi.clone() }).collect();
         let (mut a, mut b) = (vec![0; n], vec![0; n]);
         each(

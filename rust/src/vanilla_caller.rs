@@ -205,7 +205,7 @@ impl<'a> VanillaConsensusRead<'a> {
     /// # Ok::<(), gedrashiw::Refusal>(())
     /// ```
     pub fn padded(&self, new_length: usize, left: bool, base: u8, qual: u8) -> Result<VanillaConsensusRead<'static>, Refusal> {
-        owned(new_length, |out| self.padded_into(new_length, left, base, qual, out))
+        self.owned(new_length, |out| self.padded_into(new_length, left, base, qual, out))
     }
 
     /// [`Self::padded`] with the base n and quality 2.
@@ -221,7 +221,7 @@ impl<'a> VanillaConsensusRead<'a> {
     /// # Ok::<(), gedrashiw::Refusal>(())
     /// ```
     pub fn padded_default(&self, new_length: usize, left: bool) -> Result<VanillaConsensusRead<'static>, Refusal> {
-        owned(new_length, |out| self.padded_default_into(new_length, left, out))
+        self.owned(new_length, |out| self.padded_default_into(new_length, left, out))
     }
 
     /// Writes [`Self::padded`] to `new_length` places; answers the pattern of the annotation that it keeps.
@@ -322,26 +322,37 @@ impl<'a> VanillaConsensusRead<'a> {
     }
 }
 
-/// A strand of so many positions that a call writes; its annotation is of the pattern that the call answers.
-fn owned(
-    new_length: usize,
-    write: impl FnOnce(&mut StrandOut) -> Result<Option<ConversionPattern>, Refusal>,
-) -> Result<VanillaConsensusRead<'static>, Refusal> {
-    let places = new_length.min(MAX_POSITIONS);
-    let (mut bases, mut quals, mut depths, mut errors) = (vec![0; places], vec![0; places], vec![0; places], vec![0; places]);
-    let mut evidence = EvidenceArrays::clear(places);
-    let pattern = write(&mut StrandOut {
-        bases: &mut bases,
-        quals: &mut quals,
-        depths: &mut depths,
-        errors: &mut errors,
-        evidence: evidence.as_out(),
-    })?;
-    Ok(VanillaConsensusRead {
-        bases: bases.into(),
-        quals: quals.into(),
-        depths: depths.into(),
-        errors: errors.into(),
-        methylation: pattern.map(|pattern| MethylationAnnotation { evidence, pattern }),
-    })
+/// So many places. Memory that is asked for as zeros (`vec![0; n]`) takes longer to get than it takes to fill so little.
+fn places<T: Clone + Default>(n: usize) -> Vec<T> {
+    let mut places = Vec::with_capacity(n);
+    places.resize(n, T::default());
+    places
+}
+
+impl VanillaConsensusRead<'_> {
+    /// This strand at another length, as a call writes it; its annotation is of the pattern that the call answers. Evidence is written
+    /// only where the length is its own: otherwise it needs no places.
+    fn owned(
+        &self,
+        new_length: usize,
+        write: impl FnOnce(&mut StrandOut) -> Result<Option<ConversionPattern>, Refusal>,
+    ) -> Result<VanillaConsensusRead<'static>, Refusal> {
+        let n = new_length.min(MAX_POSITIONS);
+        let (mut bases, mut quals, mut depths, mut errors) = (places(n), places(n), places(n), places(n));
+        let mut evidence = EvidenceArrays::clear(if self.methylation.is_some() && self.len() == new_length { n } else { 0 });
+        let pattern = write(&mut StrandOut {
+            bases: &mut bases,
+            quals: &mut quals,
+            depths: &mut depths,
+            errors: &mut errors,
+            evidence: evidence.as_out(),
+        })?;
+        Ok(VanillaConsensusRead {
+            bases: bases.into(),
+            quals: quals.into(),
+            depths: depths.into(),
+            errors: errors.into(),
+            methylation: pattern.map(|pattern| MethylationAnnotation { evidence, pattern }),
+        })
+    }
 }
