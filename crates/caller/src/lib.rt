@@ -5,11 +5,11 @@ ghost use Prim.Native.Nat.{_≤_, _+_};
 ghost use lib.ListN.{length};
 ghost use Rattle.lists.specs.Output.{put, answer, after};
 ghost use Rattle.numbers.specs.Numbers.{total};
+ghost use Rattle.rates.specs.Rate.{rateOf};
 ghost use Rattle.refusals.specs.Refusal.{refusal};
 ghost use Rattle.caller.specs.Short.{short, shortOf};
 ghost use Rattle.caller.specs.Name.{readName, nameTooShort, nameRefused};
 ghost use Rattle.caller.specs.Rate.{rateFaults, errorRate};
-use lists::at_u16;
 use lists::copy_u8;
 use rates::error_rate;
 use refusals::MAX_POSITIONS;
@@ -106,17 +106,19 @@ pub fn rate_refusal(depths: usize, errors: usize) -> u8
     refuse_if(number, errors != depths, RAGGED)
 }
 
-fn total_of(xs: &[u16]) -> u32
-    requires { ⌜ length (now xs) ≤ 1024 ⌝ }
-    ensures { λ r. ⌜ r ≡ total (now (xs .entry)) ⌝ }
+fn rate_of(depths: &[u16], errors: &[u16]) -> f32
+    requires { ⌜ (length (now errors) ≡ length (now depths)) × (length (now depths) ≤ 1024) ⌝ }
+    ensures { λ r. ⌜ r ≡ rateOf (total (now (errors .entry))) (total (now (depths .entry))) ⌝ }
 {
-    let mut sum = 0;
+    let mut all_depths = 0;
+    let mut all_errors = 0;
     let mut i = 0;
-    while i < xs.len() {
-        sum += at_u16(xs, i, 0) as u32;
+    while i < depths.len() {
+        all_depths += depths[i] as u32;
+        all_errors += errors[i] as u32;
         i += 1;
     }
-    sum
+    error_rate(all_errors, all_depths)
 }
 
 // All errors of a strand over all its depths, none of them held; 0 where the depths sum to 0. Refuses by 7, 8.
@@ -127,7 +129,5 @@ pub fn calculate_error_rate(depths: &[u16], errors: &[u16]) -> ErrorRate
     if number != 0 {
         return ErrorRate::Refused(number);
     }
-    let all_errors = total_of(errors);
-    let all_depths = total_of(depths);
-    ErrorRate::Rate(error_rate(all_errors, all_depths))
+    ErrorRate::Rate(rate_of(depths, errors))
 }
