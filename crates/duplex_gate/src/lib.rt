@@ -10,18 +10,40 @@ use refusals::MAX_POSITIONS;
 use refusals::TOO_LONG;
 use refusals::refuse_if;
 
-// The largest of a strand's depths within the record's length, uncapped; 0 where there are none.
-fn largest_within(positions: usize, depths: &[u16]) -> u16
-    ensures { λ r. ⌜ r ≡ largestWithin positions (now (depths .entry)) ⌝ }
+// A depth of each strand.
+struct Depths {
+    ab: u16,
+    ba: u16,
+}
+
+// The largest of each strand's depths within the record's length, uncapped; 0 where there are none. To where both strands reach they are
+// looked at together, then the longer alone.
+fn largest_within(positions: usize, ab: &[u16], ba: &[u16]) -> Depths
+    ensures { λ r. ⌜ (r .ab ≡ largestWithin positions (now (ab .entry))) × (r .ba ≡ largestWithin positions (now (ba .entry))) ⌝ }
 {
-    let n = smaller(positions, depths.len());
-    let mut found = 0;
+    let ab_end = smaller(positions, ab.len());
+    let ba_end = smaller(positions, ba.len());
+    let both = smaller(ab_end, ba_end);
+    let mut of_ab = 0;
+    let mut of_ba = 0;
     let mut i = 0;
-    while i < n {
-        found = max_u16(found, depths[i]);
+    while i < both {
+        of_ab = max_u16(of_ab, ab[i]);
+        of_ba = max_u16(of_ba, ba[i]);
         i += 1;
     }
-    found
+    while i < ab_end {
+        of_ab = max_u16(of_ab, ab[i]);
+        i += 1;
+    }
+    while i < ba_end {
+        of_ba = max_u16(of_ba, ba[i]);
+        i += 1;
+    }
+    Depths {
+        ab: of_ab,
+        ba: of_ba,
+    }
 }
 
 // The consensus gate of a record of so many positions: whether its strands' largest depths there, uncapped, reach the thresholds.
@@ -43,7 +65,6 @@ pub fn duplex_consensus_has_minimum_reads(
     if number != 0 {
         return gate_answer(min_reads, number, 0, 0);
     }
-    let ab = largest_within(positions, ab_depths);
-    let ba = largest_within(positions, ba_depths);
-    gate_answer(min_reads, number, ab as u32, ba as u32)
+    let largest = largest_within(positions, ab_depths, ba_depths);
+    gate_answer(min_reads, number, largest.ab as u32, largest.ba as u32)
 }

@@ -36,9 +36,10 @@ returns c =
 returns-2 : tie.Need-returns-2
 unfolding consensusGate faults
 returns-2 c =
-    let test = c .before .before .before .before in
+    let found = c .before .before .before in
+    let test = found .before .before in
     c .gate-answer2 .ensures
-    ∙ ap₂ (gateAnswer (ts test) (test .refuse-if .result)) (c .before .before .largest-within .ensures) (c .before .largest-within2 .ensures)
+    ∙ ap₂ (gateAnswer (ts test) (test .refuse-if .result)) (found .largest-within .ensures .0) (found .largest-within .ensures .1)
     ∙ counted (ts test) (own test) refl (number test) _ _
 
 pub duplex-consensus-has-minimum-reads-spec : {M : Type 1} → statement M
@@ -47,5 +48,5 @@ duplex-consensus-has-minimum-reads-spec =
     (tie.spec
     (λ c κs. tt) (λ c κs. tt)
     returns
-    (λ c κs. tt) (λ c κs. tt) (λ c. search needs) (λ c. search needs) (λ c κs. tt)
+    (λ c κs. tt) (λ c. search needs) (λ c. search needs) (λ c κs. tt)
     returns-2)
