@@ -567,7 +567,7 @@ uint8_t gedrashiw_is_cpg_context(const uint8_t *ref_seq, size_t ref_seq_len, siz
 
 /* ==== As bytes: combination and metrics where numbers of more than one byte are passed as bytes, low byte first, whatever the host's
  * own order. A length is a number of bytes, and bytes need no alignment. gedrashiw_metrics uses about 12 KB of stack,
- * gedrashiw_duplex_consensus about 53 KB. ==== */
+ * gedrashiw_duplex_consensus about 58 KB. ==== */
 
 /* The bytes that gedrashiw_metrics writes. */
 #define GEDRASHIW_METRICS_BYTES 40
