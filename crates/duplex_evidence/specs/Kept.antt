@@ -2,8 +2,9 @@
 -- all other evidence becomes clear.
 use Prim.Native.Nat.{ℕ}
 use mathlib.Core.Path.{_≡_}
-use mathlib.Core.Bool.{Bool, false}
+use mathlib.Core.Bool.{Bool, false, not}
 use mathlib.Core.List.{List, [], _∷_}
+use lib.Dec.{eqb}
 use lib.ListN.{length, getD}
 use Rattle.lists.specs.Output.{put}
 use Rattle.lists.specs.Part.{onlyIf}
@@ -25,6 +26,13 @@ callOf ct a b i = callAt ct (getD (a .bases) i 0) (getD (b .bases) i 0)
 abbrev pub evidenceOf : CtInput → Arrays → Arrays → Annotation → Arrays → ℕ → Evidence
 evidenceOf ct a b annotation s i =
     evidenceIf (isCallOf annotation (callOf ct a b i)) (getD (s .evidence .unconverted) i 0) (getD (s .evidence .converted) i 0)
+
+-- Its mark there, and its evidence by the mark: where that is not 0, the counts are kept.
+abbrev pub markOf : CtInput → Annotation → List ℕ → List ℕ → ℕ → ℕ
+markOf ct annotation a b i = evidenceIf (isCallOf annotation (callAt ct (getD a i 0) (getD b i 0))) 0 0 .mark
+
+abbrev pub markedAt : List ℕ → List ℕ → List ℕ → ℕ → Evidence
+markedAt marks unconverted converted i = evidenceIf (not (eqb (getD marks i 0) 0)) (getD unconverted i 0) (getD converted i 0)
 
 -- The first n positions. Without an annotation there is none.
 unfoldable pub keptMarks : ℕ → CtInput → Arrays → Arrays → Annotation → Arrays → List ℕ

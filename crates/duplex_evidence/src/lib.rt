@@ -5,10 +5,12 @@ ghost use mathlib.Core.Bool.{false};
 ghost use mathlib.Core.List.{[], _∷_};
 ghost use Prim.Native.Nat.{_≤_};
 ghost use lib.ListN.{length};
+ghost use Rattle.lists.specs.Output.{put};
+ghost use Rattle.lists.specs.Table.{tabulate};
 ghost use Rattle.methylation.specs.Arrays.{evidenceArrays, evidenceTable, PutsEvidence};
 ghost use Rattle.vanilla_caller.specs.Strand.{arrays};
 ghost use Rattle.duplex_arrays.specs.Positions.{arraysShort};
-ghost use Rattle.duplex_evidence.specs.Kept.{evidenceOf, EvidenceAs};
+ghost use Rattle.duplex_evidence.specs.Kept.{markOf, markedAt, evidenceOf, EvidenceAs};
 use duplex_call::keeps_evidence;
 use duplex_molecule::CtInput;
 use methylation::Annotation;
@@ -36,7 +38,50 @@ fn evidence_short(
                     | ((marks_out < n) | ((unconverted_out < n) | (converted_out < n))))))
 }
 
-// The evidence at each of the first so many positions.
+// The marks of the first so many positions.
+fn fill_marks(
+    annotation: Annotation,
+    ct: CtInput,
+    a_bases: &[u8],
+    b_bases: &[u8],
+    places: usize,
+    marks_out: &mut [u8],
+)
+    requires { ⌜ (places ≤ length (now «a_bases»)) × (places ≤ length (now «b_bases»)) × (places ≤ length (now «marks_out»)) ⌝ }
+    ensures { λ _. ⌜ now («marks_out» .exit) ≡ put (tabulate places (markOf ct annotation (now («a_bases» .entry)) (now («b_bases» .entry)))) (now («marks_out» .entry)) ⌝ }
+{
+    let mut i = 0;
+    while i < places {
+        let e = evidence_if(keeps_evidence(annotation, ct, a_bases[i], b_bases[i]), 0, 0);
+        marks_out[i] = e.mark;
+        i += 1;
+    }
+}
+
+// The counts of the first so many positions, where they are marked.
+fn fill_counts(
+    marks: &[u8],
+    unconverted: &[u32],
+    converted: &[u32],
+    places: usize,
+    unconverted_out: &mut [u32],
+    converted_out: &mut [u32],
+)
+    requires { ⌜ (places ≤ length (now marks)) × (places ≤ length (now unconverted)) × (places ≤ length (now converted)) ⌝ }
+    requires { ⌜ (places ≤ length (now «unconverted_out»)) × (places ≤ length (now «converted_out»)) ⌝ }
+    ensures { λ _. ⌜ now («unconverted_out» .exit) ≡ put (tabulate places (λ i. markedAt (now (marks .entry)) (now (unconverted .entry)) (now (converted .entry)) i .unconverted)) (now («unconverted_out» .entry)) ⌝ }
+    ensures { λ _. ⌜ now («converted_out» .exit) ≡ put (tabulate places (λ i. markedAt (now (marks .entry)) (now (unconverted .entry)) (now (converted .entry)) i .converted)) (now («converted_out» .entry)) ⌝ }
+{
+    let mut i = 0;
+    while i < places {
+        let e = evidence_if(marks[i] != 0, unconverted[i], converted[i]);
+        unconverted_out[i] = e.unconverted;
+        converted_out[i] = e.converted;
+        i += 1;
+    }
+}
+
+// The evidence at each of the first so many positions: the marks first, since bytes alone go 16 at once, then each count by its mark.
 fn fill_evidence(
     annotation: Annotation,
     ct: CtInput,
@@ -57,15 +102,15 @@ fn fill_evidence(
         (evidenceArrays (now («marks_out» .entry)) (now («unconverted_out» .entry)) (now («converted_out» .entry)))
         (evidenceArrays (now («marks_out» .exit)) (now («unconverted_out» .exit)) (now («converted_out» .exit))) ⌝ }
 {
-    let mut i = 0;
-    while i < places {
-        let kept = keeps_evidence(annotation, ct, a_bases[i], b_bases[i]);
-        let e = evidence_if(kept, unconverted[i], converted[i]);
-        marks_out[i] = e.mark;
-        unconverted_out[i] = e.unconverted;
-        converted_out[i] = e.converted;
-        i += 1;
-    }
+    fill_marks(annotation, ct, a_bases, b_bases, places, marks_out);
+    fill_counts(
+        marks_out,
+        unconverted,
+        converted,
+        places,
+        unconverted_out,
+        converted_out,
+    );
 }
 
 // Writes an annotated strand's evidence at the first n positions; nothing where an array is shorter than n.
