@@ -4,7 +4,6 @@ use Prim.Native.Nat.{ℕ}
 use mathlib.Core.Path.{_≡_}
 use mathlib.Core.Bool.{Bool, _&&_}
 use mathlib.Core.List.{List, _∷_}
-use lib.Dec.{ltb}
 use Rattle.lists.specs.Output.{answer}
 use Rattle.refusals.specs.Refusal.{_if_, refusal, Broken}
 use Rattle.replies.specs.Choices.{yes}
@@ -19,10 +18,6 @@ use Rattle.c_record.specs.Outputs.{RecordBytes, asBytes, asArrays, LeavesBytes}
 -- A pattern is looked at of a strand that is there and annotated.
 abbrev pub told : ℕ → ℕ → Bool
 told present annotated = yes present && yes annotated
-
--- A pattern above 1 is refused.
-abbrev pub wrongPattern : Bool → ℕ → Bool
-wrongPattern annotated pattern = annotated && ltb 1 pattern
 
 -- A strand as C gives it, as far as it is looked at.
 abbrev pub strandGiven : ℕ → ℕ → ℕ → List ℕ → List ℕ → List ℕ → List ℕ → List ℕ → StrandBytes

@@ -5,23 +5,18 @@ ghost use mathlib.Core.Path.{_≡_};
 ghost use mathlib.Core.Bool.{_||_};
 ghost use Rattle.replies.specs.Choices.{yes};
 ghost use Rattle.duplex_metrics.specs.Metrics.{input};
+ghost use Rattle.molecule_strand.specs.Strand.{wrongPattern};
 ghost use Rattle.c_record.specs.Outputs.{recordBytes};
 ghost use Rattle.c_metrics.specs.Bytes.{seen, MetricsEntry};
-ghost use Rattle.c_interface.specs.Entry.{told, wrongPattern, strandGiven, ConsensusEntry};
+ghost use Rattle.c_interface.specs.Entry.{told, strandGiven, ConsensusEntry};
 use c_consensus::duplex_consensus_bytes;
 use c_metrics::metrics_of_bytes;
 use duplex_kind::DuplexConsensus;
 use duplex_reply::DuplexRecord;
 use duplex_reply::record_for;
 use molecule_strand::annotation_of;
+use molecule_strand::wrong_pattern;
 use refusals::BROKEN;
-
-// Row 13's condition for a pattern.
-fn wrong_pattern(annotated: bool, pattern: u8) -> bool
-    ensures { λ r. ⌜ r ≡ wrongPattern annotated pattern ⌝ }
-{
-    annotated & (1 < pattern)
-}
 
 // The duplex record of two strands, document 01's combination, as bytes. Of a strand that is not there nothing is looked at, and its
 // pattern and evidence only with an annotation; reads are a run of whole fields 30, looked at where they are listed. What is there,

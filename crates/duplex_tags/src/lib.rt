@@ -76,7 +76,7 @@ fn kind_too_short(needed: KindLengths, out: KindLengths) -> bool
 }
 
 // The number that refuses the sequence, the evidence, or the outputs of counts, 0 for none.
-fn counts_refusal(
+pub fn counts_refusal(
     bases: usize,
     a_annotation: Annotation,
     a: EvidenceLengths,
@@ -103,7 +103,8 @@ fn number_of(texts: DuplexTexts) -> u8
     }
 }
 
-fn tags_of(texts: DuplexTexts) -> DuplexMethylationTags
+// The texts' answer, as that of a record's tags.
+pub fn tags_of(texts: DuplexTexts) -> DuplexMethylationTags
     ensures { λ r. ⌜ r ≡ tagsOf texts ⌝ }
 {
     match texts {

@@ -2,9 +2,9 @@
 -- byte first, evidence nine.
 use Prim.Native.Nat.{ℕ, _/_, _≤_, min}
 use mathlib.Core.Path.{_≡_}
-use mathlib.Core.Bool.{Bool, cond}
+use mathlib.Core.Bool.{Bool, cond, _&&_}
 use mathlib.Core.List.{List}
-use lib.Dec.{eqb}
+use lib.Dec.{eqb, ltb}
 use lib.ListN.{length, take}
 use Rattle.lists.specs.Output.{put}
 use Rattle.methylation.specs.declared.Annotation.{Annotation}
@@ -20,6 +20,10 @@ use Rattle.molecule_strand.specs.declared.StrandCounts.{StrandCounts}
 -- An annotation, where there is one, by the number of its pattern: 0 is C to T, 1 G to A. A number above 1 is refused.
 unfoldable pub annotationOf : Bool → ℕ → Annotation
 annotationOf annotated pattern = cond annotated (Of (cond (eqb pattern 0) CToT GToA)) Absent
+
+-- A pattern above 1 is refused, where there is an annotation.
+abbrev pub wrongPattern : Bool → ℕ → Bool
+wrongPattern annotated pattern = annotated && ltb 1 pattern
 
 pub record StrandBytes : Type 0 where
   pub present : Bool

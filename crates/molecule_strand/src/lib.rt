@@ -6,7 +6,7 @@ ghost use Rattle.lists.specs.Part.{onlyIf};
 ghost use Rattle.refusals.specs.Refusal.{refusal};
 ghost use Rattle.methylation.specs.Methylation.{isAnnotated};
 ghost use Rattle.molecule_strand.specs.Rows.{misfitIn, longIn, earlyFaults};
-ghost use Rattle.molecule_strand.specs.Strand.{annotationOf, numbers, NumbersRead, StrandRead};
+ghost use Rattle.molecule_strand.specs.Strand.{annotationOf, wrongPattern, numbers, NumbersRead, StrandRead};
 use byte_numbers::read_u16s;
 use lists::smaller;
 use methylation::Annotation;
@@ -32,6 +32,13 @@ pub fn annotation_of(annotated: bool, pattern: u8) -> Annotation
         return Annotation::Of(ConversionPattern::GToA);
     }
     Annotation::Absent
+}
+
+// Whether there is an annotation, and the number of its pattern stands for none: row 13's condition for it.
+pub fn wrong_pattern(annotated: bool, pattern: u8) -> bool
+    ensures { λ r. ⌜ r ≡ wrongPattern annotated pattern ⌝ }
+{
+    annotated & (1 < pattern)
 }
 
 // A strand by how many bytes each of its arrays is.
@@ -84,7 +91,7 @@ pub fn early_refusal(a: ByteCounts, b: ByteCounts, broken: bool) -> u8
 }
 
 // Bytes that are looked at, or none.
-fn seen_u8(looked_at: bool, xs: &[u8]) -> &[u8]
+pub fn seen_u8(looked_at: bool, xs: &[u8]) -> &[u8]
     ensures { λ r. ⌜ now r ≡ onlyIf «looked_at» (now (xs .entry)) ⌝ }
 {
     if looked_at {

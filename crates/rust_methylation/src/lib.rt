@@ -100,7 +100,8 @@ fn mm_reply(r: Mm) -> TagsReply
     }
 }
 
-fn duplex_tags_reply(r: DuplexMethylationTags) -> DuplexTagsReply
+// The answer to a call for a record's tags, as numbers.
+pub fn duplex_tags_reply(r: DuplexMethylationTags) -> DuplexTagsReply
     ensures { λ s. ⌜ s ≡ duplexTagsReply r ⌝ }
 {
     match r {
