@@ -13,6 +13,7 @@ static uint16_t depths[2][N], errors[2][N];
 static uint32_t counts[2][2][N];
 static struct gedrashiw_source_read reads[READS];
 static uint8_t out[8][9 * N], reads_bytes[READS * N];
+static uint8_t count_bytes[6][2 * N];
 static uint16_t out16[7][N];
 static uint32_t out32[4][N];
 
@@ -44,6 +45,12 @@ static void tags(void) {
     gedrashiw_duplex_methylation_tags(bases[0], N, 1, marks[0], N, counts[0][0], N, counts[0][1], N, 2, marks[1], N, counts[1][0], N, counts[1][1],
                                       N, 1, out[0], N, out[1], 9 * N, out[2], 9 * N, out[3], 9 * N, out[4], 9 * N, out16[0], N, out16[1], N,
                                       out16[2], N, out16[3], N, out16[4], N, out16[5], N);
+}
+
+static void tags_of_bytes(void) {
+    gedrashiw_methylation_tags(bases[0], N, 1, 0, evidence[0], 9 * N, 1, 1, evidence[1], 9 * N, 1, out[0], N, out[1], 9 * N, out[2], 9 * N, out[3],
+                               9 * N, out[4], 9 * N, count_bytes[0], 2 * N, count_bytes[1], 2 * N, count_bytes[2], 2 * N, count_bytes[3], 2 * N,
+                               count_bytes[4], 2 * N, count_bytes[5], 2 * N);
 }
 
 static size_t taken(void (*call)(void)) {
@@ -88,7 +95,8 @@ int main(void) {
                  {"gedrashiw_duplex_metrics", duplex_metrics},
                  {"gedrashiw_duplex_consensus", consensus},
                  {"gedrashiw_duplex_consensus_typed", consensus_typed},
-                 {"gedrashiw_duplex_methylation_tags", tags}};
+                 {"gedrashiw_duplex_methylation_tags", tags},
+                 {"gedrashiw_methylation_tags", tags_of_bytes}};
     taken(nothing);
     size_t base = taken(nothing);
     for (size_t i = 0; i < sizeof calls / sizeof *calls; i++) printf("stack of %-36s %6zu bytes\n", calls[i].name, taken(calls[i].call) - base);

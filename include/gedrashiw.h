@@ -7,7 +7,7 @@
  *     Metrics           aD to cE and nc
  *     Methylation tags  restored sequence, MM, ML, counts
  *     One position      what two bases, a quality, a count, a reference base say
- *     As bytes          combination and metrics over arrays of bytes, low byte first
+ *     As bytes          combination, metrics and methylation tags over arrays of bytes, low byte first
  *
  * An array is a pointer and the number of its elements, in this order. The entries keep no pointer, allocate nothing and hold no
  * state, so that threads may call them side by side.
@@ -565,9 +565,9 @@ struct gedrashiw_letters gedrashiw_bases(uint8_t pattern);
  * case. */
 uint8_t gedrashiw_is_cpg_context(const uint8_t *ref_seq, size_t ref_seq_len, size_t pos, uint8_t is_top_strand);
 
-/* ==== As bytes: combination and metrics where numbers of more than one byte are passed as bytes, low byte first, whatever the host's
- * own order. A length is a number of bytes, and bytes need no alignment. gedrashiw_metrics uses about 12 KB of stack,
- * gedrashiw_duplex_consensus about 58 KB. ==== */
+/* ==== As bytes: combination, metrics and methylation tags where numbers of more than one byte are passed as bytes, low byte first,
+ * whatever the host's own order. A length is a number of bytes, and bytes need no alignment. gedrashiw_metrics uses about 12 KB of stack,
+ * gedrashiw_duplex_consensus about 58 KB, gedrashiw_methylation_tags about 35 KB. ==== */
 
 /* The bytes that gedrashiw_metrics writes. */
 #define GEDRASHIW_METRICS_BYTES 40
@@ -603,7 +603,7 @@ uint8_t gedrashiw_metrics(const uint8_t *a_depths, size_t a_depths_len,
                           const uint8_t *errors, size_t errors_len,
                           uint8_t *out, size_t out_len);
 
-/* The bytes of a position: of depths and errors, and of evidence. */
+/* The bytes of a position: of depths, errors and counts, and of evidence. */
 #define GEDRASHIW_NUMBER_BYTES 2
 #define GEDRASHIW_EVIDENCE_BYTES 9
 
@@ -671,6 +671,55 @@ gedrashiw_duplex_consensus(uint8_t a_present, uint8_t a_annotated, uint8_t a_pat
                            uint8_t *errors_out, size_t errors_out_len,
                            uint8_t *a_evidence_out, size_t a_evidence_out_len,
                            uint8_t *b_evidence_out, size_t b_evidence_out_len);
+
+/* The methylation tags of a record, as bytes: gedrashiw_duplex_methylation_tags on what gedrashiw_duplex_consensus takes and writes.
+ *
+ * bases         the record's, a byte each
+ *
+ * Of the record's first strand, and of its second likewise:
+ *
+ * a_annotated   0: it has no annotation, and a_pattern and a_evidence are not looked at, nor a_evidence_len; nothing goes to its outputs;
+ *               any other number: it has one
+ * a_pattern     0: C to T; 1: G to A; above 1: refused as 13. The numbers are not those of enum gedrashiw_annotation
+ * a_evidence    nine bytes a position, as gedrashiw_duplex_consensus takes them and writes them to a_evidence_out
+ *
+ * mode          the chemistry, of enum gedrashiw_mode
+ *
+ * The evidence of a strand has as many positions as the bases, at most 1,024: ten are a bases_len of 10 and an a_evidence_len of 90.
+ *
+ * What is written where refused is 0:
+ *
+ * seq_out             the sequence, restored by the annotations, a byte each
+ * a_mm_out, b_mm_out  each strand's MM text
+ * mm_out, ml_out      the MM text of both, C to T groups first, and the ML bytes in its order
+ * a_unconverted_out, a_converted_out, b_unconverted_out, b_converted_out
+ *                     each strand's counts, held to 32,767: 16-bit numbers, two bytes each, which a tag of 16-bit numbers holds as they stand
+ * unconverted_out, converted_out
+ *                     the counts of both strands summed, likewise; written in any case
+ *
+ * Bytes of an output past the written ones are left as they were. For n positions n bytes of sequence, 5 + 5 n of a strand's text, twice
+ * that of both, 2 n of ML and 2 n of each output of counts are always enough.
+ *
+ * Answers with refused 0, or 13, 7, 8 or 12; positions is a number of positions also of the counts, not of their bytes.
+ */
+struct gedrashiw_duplex_tags
+gedrashiw_methylation_tags(const uint8_t *bases, size_t bases_len,
+                           uint8_t a_annotated, uint8_t a_pattern,
+                           const uint8_t *a_evidence, size_t a_evidence_len,
+                           uint8_t b_annotated, uint8_t b_pattern,
+                           const uint8_t *b_evidence, size_t b_evidence_len,
+                           uint8_t mode,
+                           uint8_t *seq_out, size_t seq_out_len,
+                           uint8_t *a_mm_out, size_t a_mm_out_len,
+                           uint8_t *b_mm_out, size_t b_mm_out_len,
+                           uint8_t *mm_out, size_t mm_out_len,
+                           uint8_t *ml_out, size_t ml_out_len,
+                           uint8_t *a_unconverted_out, size_t a_unconverted_out_len,
+                           uint8_t *a_converted_out, size_t a_converted_out_len,
+                           uint8_t *b_unconverted_out, size_t b_unconverted_out_len,
+                           uint8_t *b_converted_out, size_t b_converted_out_len,
+                           uint8_t *unconverted_out, size_t unconverted_out_len,
+                           uint8_t *converted_out, size_t converted_out_len);
 
 #ifdef __cplusplus
 }

@@ -1,7 +1,7 @@
 //! The calls on numbers given as bytes, low byte first, which C programs that keep molecules encoded use. Lengths are in bytes.
 use crate::duplex_caller::Record;
 use crate::entries;
-use crate::methylation::ConversionPattern;
+use crate::methylation::{ConversionPattern, DuplexTagLengths, MethylationMode};
 use crate::refusal::{Refusal, told};
 
 /// The bytes of the metrics: ten numbers of 32 bits, aD, aM, aE, bD, bM, bE, cD, cM, cE and nc; the rates are their bits.
@@ -45,6 +45,36 @@ pub struct RecordBytesOut<'a> {
     pub first_evidence: &'a mut [u8],
     /// The evidence of its second strand, where there is one and it is annotated.
     pub second_evidence: &'a mut [u8],
+}
+
+/// Where the counts of a strand go, or those of both: numbers of 16 bits.
+#[derive(Debug, Default)]
+pub struct CountBytesOut<'a> {
+    /// Unconverted counts.
+    pub unconverted: &'a mut [u8],
+    /// Converted counts.
+    pub converted: &'a mut [u8],
+}
+
+/// Where a record's sequence and tags go. Nothing goes to the outputs of an annotation that is missing.
+#[derive(Debug, Default)]
+pub struct TagBytesOut<'a> {
+    /// The sequence.
+    pub seq: &'a mut [u8],
+    /// The first strand's MM text: at most 5 bytes and 5 for each position.
+    pub a_mm: &'a mut [u8],
+    /// The second strand's.
+    pub b_mm: &'a mut [u8],
+    /// The combined MM text: at most twice that.
+    pub mm: &'a mut [u8],
+    /// The combined ML array: at most 2 for each position.
+    pub ml: &'a mut [u8],
+    /// The first strand's counts.
+    pub a: CountBytesOut<'a>,
+    /// The second strand's counts.
+    pub b: CountBytesOut<'a>,
+    /// The counts of both, added.
+    pub both: CountBytesOut<'a>,
 }
 
 /// The metrics of a record, of bytes.
@@ -162,6 +192,69 @@ pub fn duplex_consensus_into(
         out.second_evidence,
     );
     told(record.refused, Record::of(record.kind, record.positions))
+}
+
+/// Writes the sequence and the methylation tags of a record, its evidence given as bytes, nine a position; answers how much of each output
+/// is written, the counts in positions.
+///
+/// # Errors
+///
+/// [`Refusal::Broken`], [`Refusal::TooLong`], [`Refusal::Ragged`], [`Refusal::OutputTooShort`].
+///
+/// ```
+/// use gedrashiw::MethylationMode;
+/// use gedrashiw::bytes::{CountBytesOut, TagBytesOut, methylation_tags_into};
+/// use gedrashiw::methylation::ConversionPattern;
+///
+/// let evidence = [1, 3, 0, 0, 0, 1, 0, 0, 0];
+/// let (mut seq, mut a_mm, mut mm, mut ml) = ([0; 1], [0; 10], [0; 20], [0; 2]);
+/// let (mut of_a, mut of_both) = (([0; 2], [0; 2]), ([0; 2], [0; 2]));
+/// let mut out = TagBytesOut {
+///     seq: &mut seq,
+///     a_mm: &mut a_mm,
+///     mm: &mut mm,
+///     ml: &mut ml,
+///     a: CountBytesOut { unconverted: &mut of_a.0, converted: &mut of_a.1 },
+///     both: CountBytesOut { unconverted: &mut of_both.0, converted: &mut of_both.1 },
+///     ..Default::default()
+/// };
+/// let a = Some((ConversionPattern::CToT, &evidence[..]));
+/// let lengths = methylation_tags_into(b"T", a, None, MethylationMode::EmSeq, &mut out)?;
+/// assert_eq!((lengths.positions, &seq, &mm[..lengths.mm], ml[0]), (1, b"C", &b"C+m?,0;"[..], 192));
+/// assert_eq!((of_a, of_both), (([3, 0], [1, 0]), ([3, 0], [1, 0])));
+/// # Ok::<(), gedrashiw::Refusal>(())
+/// ```
+pub fn methylation_tags_into(
+    bases: &[u8],
+    a: Option<(ConversionPattern, &[u8])>,
+    b: Option<(ConversionPattern, &[u8])>,
+    methylation_mode: MethylationMode,
+    out: &mut TagBytesOut,
+) -> Result<DuplexTagLengths, Refusal> {
+    let (a_annotated, a_pattern, a_evidence) = given(a);
+    let (b_annotated, b_pattern, b_evidence) = given(b);
+    let tags = entries::gedrashiw_methylation_tags(
+        bases,
+        a_annotated,
+        a_pattern,
+        a_evidence,
+        b_annotated,
+        b_pattern,
+        b_evidence,
+        methylation_mode as u8,
+        out.seq,
+        out.a_mm,
+        out.b_mm,
+        out.mm,
+        out.ml,
+        out.a.unconverted,
+        out.a.converted,
+        out.b.unconverted,
+        out.b.converted,
+        out.both.unconverted,
+        out.both.converted,
+    );
+    DuplexTagLengths::of(tags)
 }
 
 /// Whether there is an annotation, its pattern as the bytes number it, and its evidence.

@@ -264,6 +264,13 @@ entry! {
         listed: u8, reads: &[u8],
         bases_out: &mut [u8], quals_out: &mut [u8], errors_out: &mut [u8],
         a_evidence_out: &mut [u8], b_evidence_out: &mut [u8]) -> DuplexRecord;
+    fn gedrashiw_methylation_tags(
+        bases: &[u8],
+        a_annotated: u8, a_pattern: u8, a_evidence: &[u8],
+        b_annotated: u8, b_pattern: u8, b_evidence: &[u8],
+        mode: u8, seq_out: &mut [u8], a_mm_out: &mut [u8], b_mm_out: &mut [u8], mm_out: &mut [u8], ml_out: &mut [u8],
+        a_unconverted_out: &mut [u8], a_converted_out: &mut [u8], b_unconverted_out: &mut [u8], b_converted_out: &mut [u8],
+        unconverted_out: &mut [u8], converted_out: &mut [u8]) -> DuplexTags;
 }
 
 /// The library writes counts as u16, none of them above `i16::MAX`.

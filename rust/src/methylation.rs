@@ -751,6 +751,14 @@ pub struct DuplexTagLengths {
     pub ml: usize,
 }
 
+impl DuplexTagLengths {
+    /// As an entry answered.
+    pub(crate) fn of(tags: entries::DuplexTags) -> Result<Self, Refusal> {
+        let entries::DuplexTags { refused, positions, a_mm, b_mm, mm, ml } = tags;
+        told(refused, DuplexTagLengths { positions, a_mm, b_mm, mm, ml })
+    }
+}
+
 /// The sequence and the methylation tags of a record, from its consensus bases and the annotations of its strands, in strand order:
 /// none, one or two.
 ///
@@ -863,6 +871,5 @@ pub fn duplex_methylation_tags_into(
         as_u16(out.both.unconverted),
         as_u16(out.both.converted),
     );
-    let lengths = DuplexTagLengths { positions: tags.positions, a_mm: tags.a_mm, b_mm: tags.b_mm, mm: tags.mm, ml: tags.ml };
-    told(tags.refused, lengths)
+    DuplexTagLengths::of(tags)
 }

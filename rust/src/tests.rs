@@ -1,7 +1,7 @@
 use super::methylation::ConversionPattern::{CToT, GToA};
-use super::methylation::{ConversionPattern, EvidenceArrays, MethylationEvidence};
+use super::methylation::{ConversionPattern, EvidenceArrays, MethylationEvidence, duplex_methylation_tags};
 use super::*;
-use crate::bytes::{CountBytes, EVIDENCE_BYTES, RecordBytesOut, StrandBytes};
+use crate::bytes::{CountBytes, CountBytesOut, EVIDENCE_BYTES, RecordBytesOut, StrandBytes, TagBytesOut};
 use crate::duplex_caller::{Counts, duplex_metrics};
 
 type Strand<'a> = VanillaConsensusRead<'a>;
@@ -234,6 +234,44 @@ fn as_bytes() {
     let expected = [m.aD, m.aM, m.aE.to_bits(), m.bD, m.bM, m.bE.to_bits(), m.cD, m.cM, m.cE.to_bits(), m.nc];
     assert_eq!(words.as_slice(), expected.map(u32::to_le_bytes).as_flattened());
     assert_eq!(bytes::metrics(CountBytes { depths: &[5], ..counts }, None, &bases, &errors), Err(Refusal::Broken));
+}
+
+/// So do the tags.
+#[test]
+fn tags_as_bytes() {
+    let of_a = [1, 3, 0, 0, 0, 1, 0, 0, 0, 0, 0, 0, 0, 0, 0, 0, 0, 0];
+    let of_b = [0, 0, 0, 0, 0, 0, 0, 0, 0, 2, 0, 0, 1, 0, 2, 0, 0, 0];
+    let first = MethylationAnnotation { evidence: EvidenceArrays::new(&[1, 0], &[3, 0], &[1, 0]), pattern: CToT };
+    let second = MethylationAnnotation { evidence: EvidenceArrays::new(&[0, 1], &[0, 65_536], &[0, 2]), pattern: GToA };
+    let tags = duplex_methylation_tags(b"TA", Some(&first), Some(&second), MethylationMode::EmSeq).unwrap();
+    let (mut seq, mut a_mm, mut b_mm, mut mm, mut ml) = ([0; 2], [0; 15], [0; 15], [0; 30], [0; 4]);
+    let mut counts = [[0; 4]; 6];
+    let [au, at, bu, bt, cu, ct] = &mut counts;
+    let mut out = TagBytesOut {
+        seq: &mut seq,
+        a_mm: &mut a_mm,
+        b_mm: &mut b_mm,
+        mm: &mut mm,
+        ml: &mut ml,
+        a: CountBytesOut { unconverted: au, converted: at },
+        b: CountBytesOut { unconverted: bu, converted: bt },
+        both: CountBytesOut { unconverted: cu, converted: ct },
+    };
+    let (a, b) = (Some((CToT, &of_a[..])), Some((GToA, &of_b[..])));
+    let broken = bytes::methylation_tags_into(b"TA", Some((CToT, &of_a[1..])), b, MethylationMode::EmSeq, &mut out);
+    assert_eq!(broken, Err(Refusal::Broken));
+    let lengths = bytes::methylation_tags_into(b"TA", a, b, MethylationMode::EmSeq, &mut out).unwrap();
+    let (both_mm, both_ml) = tags.mm_ml.unwrap();
+    assert_eq!((lengths.positions, &seq[..]), (2, &tags.seq[..]));
+    assert_eq!((&mm[..lengths.mm], &ml[..lengths.ml]), (both_mm.as_bytes(), &both_ml[..]));
+    assert_eq!(&a_mm[..lengths.a_mm], tags.strands[0].mm.as_deref().unwrap().as_bytes());
+    assert_eq!(&b_mm[..lengths.b_mm], tags.strands[1].mm.as_deref().unwrap().as_bytes());
+    let [first, second] = &tags.strands[..] else { panic!("two strands") };
+    let numbers =
+        [&first.unconverted, &first.converted, &second.unconverted, &second.converted, &tags.unconverted, &tags.converted];
+    for (written, numbers) in counts.iter().zip(numbers) {
+        assert_eq!(written[..], numbers.iter().flat_map(|n| n.to_le_bytes()).collect::<Vec<u8>>()[..]);
+    }
 }
 
 #[test]

@@ -1,5 +1,5 @@
-/* Calls the typed entries over evidence, annotation and methylation tags as a C program does, on cases by chance and at the limits. What
- * is expected is worked out here, from document 01. Arrays lie as lists.h has them. */
+/* Calls the typed entries over evidence, annotation and methylation tags as a C program does, and the entry for tags over bytes, on cases
+ * by chance and at the limits. What is expected is worked out here, from document 01. Arrays lie as lists.h has them. */
 #define _DEFAULT_SOURCE
 #include "lists.h"
 
@@ -364,6 +364,20 @@ static void reckon_tags(const struct list *bases, uint8_t mode)
     }
 }
 
+static void tags_of_record_are(const char *name, struct gedrashiw_duplex_tags r, uint8_t refused, size_t positions)
+{
+    saw(name, refused);
+    same(name, "refused", r.refused, refused);
+    same(name, "positions", r.positions, refused ? 0 : positions);
+    same(name, "aMm", r.aMm, refused ? 0 : tag_lists[A_MM].n);
+    same(name, "bMm", r.bMm, refused ? 0 : tag_lists[B_MM].n);
+    same(name, "mm", r.mm, refused ? 0 : tag_lists[MM].n);
+    same(name, "ml", r.ml, refused ? 0 : tag_lists[ML].n);
+    for (int k = 0; refused == 0 && k < TAG_OUTPUTS; k++)
+        expect(k, k < A_UNCONVERTED ? 1 : 2, &tag_lists[k]);
+    settle(name);
+}
+
 static void try_duplex_tags(void)
 {
     static struct list bases;
@@ -393,17 +407,72 @@ static void try_duplex_tags(void)
             OUT16(A_UNCONVERTED, room[A_UNCONVERTED]), OUT16(A_CONVERTED, room[A_CONVERTED]), OUT16(B_UNCONVERTED, room[B_UNCONVERTED]),
             OUT16(B_CONVERTED, room[B_CONVERTED]), OUT16(SUM_UNCONVERTED, room[SUM_UNCONVERTED]),
             OUT16(SUM_CONVERTED, room[SUM_CONVERTED]));
-        const char *name = "duplex_methylation_tags";
-        saw(name, refused);
-        same(name, "refused", r.refused, refused);
-        same(name, "positions", r.positions, refused ? 0 : bases.n);
-        same(name, "aMm", r.aMm, refused ? 0 : tag_lists[A_MM].n);
-        same(name, "bMm", r.bMm, refused ? 0 : tag_lists[B_MM].n);
-        same(name, "mm", r.mm, refused ? 0 : tag_lists[MM].n);
-        same(name, "ml", r.ml, refused ? 0 : tag_lists[ML].n);
-        for (int k = 0; refused == 0 && k < TAG_OUTPUTS; k++)
-            expect(k, k < A_UNCONVERTED ? 1 : 2, &tag_lists[k]);
-        settle(name);
+        tags_of_record_are("duplex_methylation_tags", r, refused, bases.n);
+    }
+}
+
+/* The same over bytes. A strand's evidence has one length; now and then bytes are missing or left over, and a pattern is wrong, of a strand
+ * that is annotated or not. */
+struct given {
+    uint8_t annotated, pattern;
+    size_t bytes;
+    uint8_t evidence[9 * (MOST_NUMBERS + 1)];
+};
+
+static void give(struct given *g, struct strand *s, size_t n)
+{
+    some_marks(&s->of[MARKS], about(n));
+    some_totals(&s->of[UNCONVERTED], s->of[MARKS].n);
+    some_totals(&s->of[CONVERTED], s->of[MARKS].n);
+    few_called(s, n);
+    g->annotated = some_answer();
+    g->pattern = once_in(25) ? (uint8_t)(2 + chance() % 254) : (uint8_t)(chance() % 2);
+    g->bytes = 9 * s->of[MARKS].n;
+    for (size_t i = 0; i < s->of[MARKS].n; i++) {
+        g->evidence[9 * i] = (uint8_t)s->of[MARKS].v[i];
+        for (int k = 0; k < 8; k++)
+            g->evidence[9 * i + 1 + (size_t)k] = (uint8_t)(s->of[UNCONVERTED + k / 4].v[i] >> 8 * (k % 4));
+    }
+    size_t odd = once_in(25) ? 1 + chance() % 8 : 0;
+    g->bytes = g->bytes == 0 || once_in(2) ? g->bytes + odd : g->bytes - odd;
+    s->annotation = g->annotated == 0 ? GEDRASHIW_NOT_ANNOTATED : g->pattern == 0 ? GEDRASHIW_C_TO_T : GEDRASHIW_G_TO_A;
+}
+
+#define GIVEN(g) (g).annotated, (g).pattern, (const uint8_t *)lent_parts((g).evidence, (g).bytes), (g).bytes
+#define OUT_BYTES(k) OUT8(k, room[k])
+
+static void try_tags_of_bytes(void)
+{
+    static struct list bases;
+    static struct given given[2];
+    some_bases(&bases, some_length());
+    int long_one = bases.n > MOST_POSITIONS, uneven = 0, broken = 0;
+    for (int k = 0; k < 2; k++) {
+        give(&given[k], &strands[k], bases.n);
+        if (given[k].annotated == 0)
+            continue;
+        broken |= given[k].pattern > 1 || given[k].bytes % 9 != 0;
+        long_one |= given[k].bytes / 9 > MOST_POSITIONS;
+        uneven |= given[k].bytes / 9 != bases.n;
+    }
+    uint8_t mode = some_choice(), refused = broken || mode > 2 ? 13 : long_one ? 7 : uneven ? 8 : 0;
+    for (int k = 0; k < TAG_OUTPUTS; k++)
+        tag_lists[k].n = 0;
+    if (refused == 0)
+        reckon_tags(&bases, mode);
+    for (int k = 0; k < TAG_OUTPUTS; k++) {
+        size_t needed = (k < A_UNCONVERTED ? 1 : 2) * tag_lists[k].n;
+        room[k] = once_in(3) ? some_room(needed) : needed;
+    }
+    for (int k = 0; k < TAG_OUTPUTS; k++)
+        if (refused == 0 && room[k] < (k < A_UNCONVERTED ? 1 : 2) * tag_lists[k].n)
+            refused = 12;
+    EVERY_PLACE {
+        struct gedrashiw_duplex_tags r = gedrashiw_methylation_tags(
+            IN8(bases), GIVEN(given[0]), GIVEN(given[1]), mode, OUT_BYTES(SEQ), OUT_BYTES(A_MM), OUT_BYTES(B_MM), OUT_BYTES(MM), OUT_BYTES(ML),
+            OUT_BYTES(A_UNCONVERTED), OUT_BYTES(A_CONVERTED), OUT_BYTES(B_UNCONVERTED), OUT_BYTES(B_CONVERTED), OUT_BYTES(SUM_UNCONVERTED),
+            OUT_BYTES(SUM_CONVERTED));
+        tags_of_record_are("methylation_tags", r, refused, bases.n);
     }
 }
 
@@ -417,6 +486,7 @@ static void one_round(void)
     try_restore();
     try_tags();
     try_duplex_tags();
+    try_tags_of_bytes();
 }
 
 #ifndef FUZZED /* by tests/fuzz */
@@ -436,7 +506,8 @@ int main(void)
     rows("build_mm_ml_tags", "13 7 8 12");
     rows("build_mm_tag_no_ml", "13 7 8 12");
     rows("duplex_methylation_tags", "13 7 8 12");
-    printf("the typed entries over evidence and tags: %ld checks, %ld failures\n", checks, failures);
+    rows("methylation_tags", "13 7 8 12");
+    printf("the entries over evidence and tags: %ld checks, %ld failures\n", checks, failures);
     return failures != 0;
 }
 #endif
