@@ -26,11 +26,11 @@ returned (suc n) r s e =
     absurd (omega arith)
 
 module _ (x : Input) (r : MetricsRecord) (e : metricsOf x ≡ Of r) where
-  both : (metricsRefused x ≡ 0) × (r ≡ metricsRecord (figuresA x) (figuresB x) (figuresC x) (noCalls (x .bases)))
+  both : (metricsRefused x ≡ 0) × (r ≡ metricsRecord (figuresA x) (figuresB x) (figuresC x) (noCalls x))
   unfolding metricsOf
   both = returned (metricsRefused x) _ r e
 
-  pub record-is : r ≡ metricsRecord (figuresA x) (figuresB x) (figuresC x) (noCalls (x .bases))
+  pub record-is : r ≡ metricsRecord (figuresA x) (figuresB x) (figuresC x) (noCalls x)
   record-is = both .1
 
   -- No array is too long.

@@ -2,7 +2,7 @@
 use Prim.Native.Nat.{ℕ, _+_}
 use mathlib.Core.Bool.{Bool, _&&_, _||_}
 use mathlib.Core.List.{List, [], _∷_, map}
-use lib.Dec.{eqb}
+use lib.Dec.{eqb, ltb}
 use lib.ListN.{length, getD}
 use Rattle.lists.specs.Count.{countOf}
 use Rattle.lists.specs.Output.{answer}
@@ -50,12 +50,13 @@ recordFigures a b errors = figures (recordDepths (length errors) a b) (capped er
 abbrev pub rate : Figures → Float
 rate f = rateOf (f .errors) (f .depths)
 
-abbrev pub isN : ℕ → Bool
-isN base = eqb base letterN
+-- Whether a position is a no-call: its base is N, and its depth is above 0. So padding, which has no depth, is none.
+abbrev pub isNoCall : ℕ → ℕ → Bool
+isNoCall base depth = eqb base letterN && ltb 0 depth
 
--- The number of positions whose base is N.
-abbrev pub noCalls : List ℕ → ℕ
-noCalls bases = countOf isN bases
+-- The number of no-calls of a record, from the strands' depths and its own bases.
+unfoldable pub recordNoCalls : List ℕ → List ℕ → List ℕ → ℕ
+recordNoCalls a b bases = countOf (λ (met : Bool). met) (tabulate (length bases) (λ i. isNoCall (getD bases i 0) (recordDepth a b i)))
 
 unfoldable pub metricsRecord : Figures → Figures → Figures → ℕ → MetricsRecord
 metricsRecord a b c nc = record {
@@ -95,6 +96,10 @@ figuresB x = strandFigures (onlyIf (x .second) (x .b)) (onlyIf (x .second) (x .b
 abbrev pub figuresC : Input → Figures
 figuresC x = recordFigures (x .a) (onlyIf (x .second) (x .b)) (x .errors)
 
+-- nc, over the depths behind c.
+abbrev pub noCalls : Input → ℕ
+noCalls x = recordNoCalls (x .a) (onlyIf (x .second) (x .b)) (x .bases)
+
 abbrev pub lengths : Input → MetricsLengths
 lengths x = record {
   a = length (x .a);
@@ -117,7 +122,7 @@ abbrev pub metricsRefused : Input → ℕ
 metricsRefused x = refusal (metricsFaults (lengths x))
 
 unfoldable pub metricsOf : Input → Metrics
-metricsOf x = answer Refused (metricsRefused x) (Of (metricsRecord (figuresA x) (figuresB x) (figuresC x) (noCalls (x .bases))))
+metricsOf x = answer Refused (metricsRefused x) (Of (metricsRecord (figuresA x) (figuresB x) (figuresC x) (noCalls x)))
 
 -- The metrics of one strand.
 unfoldable pub strandMetrics : List ℕ → List ℕ → StrandMetrics

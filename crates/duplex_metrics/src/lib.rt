@@ -1,14 +1,13 @@
 // The metrics of a duplex record, from duplex_caller.rs (duplex_read_into). Depths and errors are capped at each position before
 // anything else. Uses lists, refusals, numbers, dna, rates and caller.
 ghost use mathlib.Core.Path.{_≡_};
-ghost use Prim.Native.Nat.{_≤_};
+ghost use Prim.Native.Nat.{_≤_, _+_};
 ghost use mathlib.Core.Bool.{cond};
 ghost use lib.ListN.{length, getD};
 ghost use Rattle.caller.specs.Short.{short};
-ghost use Rattle.lists.specs.Count.{countIf};
 ghost use Rattle.refusals.specs.Refusal.{refusal};
 ghost use Rattle.numbers.specs.Numbers.{largest, smallest, total};
-ghost use Rattle.duplex_metrics.specs.Metrics.{capped, figures, strandFigures, recordDepth, recordDepths, isN, noCalls, metricsRecord, input, metricsFaults, metricsOf, strandMetrics};
+ghost use Rattle.duplex_metrics.specs.Metrics.{capped, figures, strandFigures, recordDepth, recordDepths, isNoCall, recordNoCalls, metricsRecord, input, metricsFaults, metricsOf, strandMetrics};
 use caller::clamp_per_base_to_fgbio_short;
 use caller::rate_refusal;
 use dna::NO_CALL_BASE;
@@ -35,7 +34,7 @@ pub enum StrandMetrics {
 }
 
 // A record's tags by their names: D the largest depth, M the smallest, E the error rate, of the first strand (a), the second (b)
-// and both (c). nc is the number of positions whose base is N.
+// and both (c). nc is the number of positions whose base is N and whose depth, that behind c, is above 0.
 pub struct MetricsRecord {
     pub aD: u32,
     pub aM: u32,
@@ -156,25 +155,28 @@ pub fn strand_metrics(depths: &[u16], errors: &[u16]) -> StrandMetrics
     StrandMetrics::Of(strand_figures(depths, errors))
 }
 
-fn count_n(so_far: u32, base: u8) -> u32
-    requires { ⌜ «so_far» ≤ 1024 ⌝ }
-    ensures { λ r. ⌜ r ≡ countIf isN «so_far» base ⌝ }
+fn is_no_call(base: u8, depth: u32) -> bool
+    ensures { λ r. ⌜ r ≡ isNoCall base depth ⌝ }
 {
-    if base == NO_CALL_BASE {
-        so_far + 1
-    } else {
-        so_far
-    }
+    (base == NO_CALL_BASE) & (0 < depth)
 }
 
-fn no_calls(bases: &[u8]) -> u32
+fn count_if(yes: bool, so_far: u32) -> u32
+    requires { ⌜ «so_far» ≤ 1024 ⌝ }
+    ensures { λ r. ⌜ r ≡ cond yes («so_far» + 1) «so_far» ⌝ }
+{
+    if yes { so_far + 1 } else { so_far }
+}
+
+// The no-calls of a record with these bases, over the depths of two strands, either of which may be empty.
+fn no_calls(a: &[u16], b: &[u16], bases: &[u8]) -> u32
     requires { ⌜ length (now bases) ≤ 1024 ⌝ }
-    ensures { λ r. ⌜ r ≡ noCalls (now (bases .entry)) ⌝ }
+    ensures { λ r. ⌜ r ≡ recordNoCalls (now (a .entry)) (now (b .entry)) (now (bases .entry)) ⌝ }
 {
     let mut count = 0;
     let mut i = 0;
     while i < bases.len() {
-        count = count_n(count, bases[i]);
+        count = count_if(is_no_call(bases[i], record_depth(a, b, i)), count);
         i += 1;
     }
     count
@@ -246,5 +248,5 @@ pub fn duplex_metrics(
     let b = strand_figures(&b_depths[0..b_count], &b_errors[0..b_error_count]);
     let c = figures_of(errors.len(), a_depths, &b_depths[0..b_count], errors);
     let a = strand_figures(a_depths, a_errors);
-    Metrics::Of(metrics_record(a, b, c, no_calls(bases)))
+    Metrics::Of(metrics_record(a, b, c, no_calls(a_depths, &b_depths[0..b_count], bases)))
 }

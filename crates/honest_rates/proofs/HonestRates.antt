@@ -112,7 +112,7 @@ module _ (x : Input) (before after : List ℕ) (e : MetricsEntry (seen x) before
   y = decoded (seen x)
 
   abbrev made : MetricsRecord
-  made = metricsRecord (figuresA y) (figuresB y) (figuresC y) (noCalls (y .bases))
+  made = metricsRecord (figuresA y) (figuresB y) (figuresC y) (noCalls y)
 
   is-record : metricsOf y ≡ Of made
   unfolding metricsOf

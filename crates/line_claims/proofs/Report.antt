@@ -104,7 +104,7 @@ module _ (n : ℕ) (x : Input) (ok : Even n x) (ts : List ℕ) (z : refused ts �
       ∙ ap (λ (u : Bool). cond u 8 0) ragged-none
 
   made : MetricsRecord
-  made = metricsRecord (figuresA y) (figuresB y) (figuresC y) (noCalls (y .bases))
+  made = metricsRecord (figuresA y) (figuresB y) (figuresC y) (noCalls y)
 
   metrics-is : metricsWords (metricsOf y) ≡ Of-bits (inBits made)
   unfolding metricsOf answer unless made

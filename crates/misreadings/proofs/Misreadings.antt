@@ -23,7 +23,7 @@ use Rattle.duplex_min_reads.specs.MinReads.{faults, reachesAll}
 use Rattle.duplex_reads.specs.Reads.{gate}
 use Rattle.duplex_gate.specs.ConsensusGate.{largestWithin, consensusGate}
 use Rattle.duplex_depths.specs.Depths.{combinedDepths}
-use Rattle.duplex_metrics.specs.Metrics.{capped, strandFigures, recordDepth, recordDepths, recordFigures, metricsRecord, metricsFaults, metricsOf}
+use Rattle.duplex_metrics.specs.Metrics.{capped, strandFigures, recordDepth, recordDepths, recordFigures, recordNoCalls, metricsRecord, metricsFaults, metricsOf}
 use Rattle.metrics_bits.specs.Bits.{inBits}
 use Rattle.duplex_kind.specs.Kind.{shorterPresent, someDepth, kindBy}
 use Rattle.duplex_consensus.specs.Consensus.{listErrors}
@@ -40,9 +40,14 @@ depths = record {
 }
 
 pub figures : Figures
-unfolding countOf countIf onlyIf tabulate metricsOf metricsRecord metricsFaults strandFigures recordFigures recordDepths recordDepth capped short rateOf ofInt round div toBits inBits refusal answer unless
+unfolding countOf countIf onlyIf tabulate metricsOf metricsRecord metricsFaults strandFigures recordFigures recordNoCalls recordDepths recordDepth capped short rateOf ofInt round div toBits inBits refusal answer unless
 figures = record {
   no-calls = refl;
+  padded-ends = refl;
+  either-strand = refl;
+  past-a-strand = refl;
+  within-the-record = refl;
+  absent-strand = refl;
   ten-figures = refl;
 }
 

@@ -18,7 +18,7 @@ use Rattle.source_reads.specs.declared.SourceRead.{SourceRead}
 use Rattle.duplex_reads.specs.declared.Gate.the-variants.{Kept, Below}
 use Rattle.duplex_gate.specs.ConsensusGate.{consensusGate}
 use Rattle.duplex_depths.specs.Depths.{combinedDepths}
-use Rattle.duplex_metrics.specs.Metrics.{Input, input, recordDepth, noCalls, metricsOf}
+use Rattle.duplex_metrics.specs.Metrics.{Input, input, recordDepth, recordNoCalls, noCalls, metricsOf}
 use Rattle.metrics_bits.specs.Bits.{metricsWords}
 use Rattle.metrics_bits.specs.declared.MetricsWords.the-variants.{Of as Of-bits}
 use Rattle.duplex_outputs.specs.Outputs.{RecordArrays}
@@ -76,8 +76,17 @@ pub record Depths : Type 0 where
 -- ---- Metrics
 
 pub record Figures : Type 0 where
-  -- nc counts the byte N alone, and not the n of padding.
-  pub no-calls : noCalls (letterN ∷ lowerN ∷ []) ≡ 1
+  -- nc counts the byte N alone, and not n.
+  pub no-calls : recordNoCalls (1 ∷ 1 ∷ []) [] (letterN ∷ lowerN ∷ []) ≡ 1
+  -- It counts positions that have depth, as cD takes it: of three N between padded ends that are N too, three; with padding they would be five.
+  pub padded-ends : recordNoCalls (0 ∷ 2 ∷ 1 ∷ 3 ∷ 0 ∷ []) [] (letterN ∷ letterN ∷ letterN ∷ letterN ∷ letterN ∷ []) ≡ 3
+  -- The depth of either strand will do, and a depth of 1: by the first strand's alone this would be 1, with a depth of 2 asked for 0.
+  pub either-strand : recordNoCalls (0 ∷ 1 ∷ []) (1 ∷ 0 ∷ []) (letterN ∷ letterN ∷ []) ≡ 2
+  -- Past the end of a strand there is no depth of it, and a strand that is longer than the record adds no position.
+  pub past-a-strand : recordNoCalls (1 ∷ []) [] (letterN ∷ letterN ∷ []) ≡ 1
+  pub within-the-record : recordNoCalls (1 ∷ 1 ∷ 1 ∷ []) (1 ∷ 1 ∷ []) (letterN ∷ []) ≡ 1
+  -- Of an absent strand there is none, whatever its array has.
+  pub absent-strand : noCalls (input (0 ∷ []) (0 ∷ []) false (9 ∷ []) (0 ∷ []) (letterN ∷ []) (0 ∷ [])) ≡ 0
   -- All ten figures of a metrics call, rates as bits. They differ from each other, so that none can be a constant or stand for another:
   -- aE is 3 / 32,770, bE 1 / 7 and cE 32,768 / 32,777.
   pub ten-figures :

@@ -5,7 +5,7 @@ use Prim.Native.Nat.{ℕ}
 use borrow.Author.Needs.{needs}
 use denote.Ref.{now}
 use Rattle.lists.proofs.Output.{answer-refused, answer-passed}
-use Rattle.duplex_metrics.specs.Metrics.{Input, input, lengths, figuresA, figuresB, figuresC, noCalls, strandFigures, recordFigures, metricsRecord, metricsOf}
+use Rattle.duplex_metrics.specs.Metrics.{Input, input, lengths, figuresA, figuresB, figuresC, noCalls, strandFigures, recordFigures, recordNoCalls, metricsRecord, metricsOf}
 use Rattle.duplex_metrics.specs.declared.Figures.{Figures}
 use Rattle.duplex_metrics.specs.declared.Metrics.the-variants.{Refused, Of}
 use Rattle.duplex_metrics.proofs.Few.{Few, few, part-few, looked-at}
@@ -42,11 +42,11 @@ strand-figures-requires-2 c κs =
     (s .a, s .a-errors)
 
 no-calls-requires : tie.Need-no-calls-requires
-no-calls-requires c κs = short (c .before .before .before .before .before .before .before .before) .bases
+no-calls-requires c κs = short (c .before .before .before .before .before .before .before .before .before) .bases
 
 -- The counts of the second strand's elements, seen from the answer.
 abbrev counts : tie.After-metrics-record → tie.After-counted2
-counts c = c .before .before .before .before .before .before .before .before
+counts c = c .before .before .before .before .before .before .before .before .before
 
 abbrev asked : tie.After-metrics-record → Input
 asked c = given (counts c .before .before .before)
@@ -54,21 +54,26 @@ asked c = given (counts c .before .before .before)
 same-record : {a b c a' b' c' : Figures} {n n' : ℕ} → a ≡ a' → b ≡ b' → c ≡ c' → n ≡ n' → metricsRecord a b c n ≡ metricsRecord a' b' c' n'
 same-record a b c n = cc
 
-b-is : (c : tie.After-metrics-record) → c .before .before .before .before .before .strand-figures .result ≡ figuresB (asked c)
+b-is : (c : tie.After-metrics-record) → c .before .before .before .before .before .before .strand-figures .result ≡ figuresB (asked c)
 b-is c =
     let x = asked c in
-    c .before .before .before .before .before .strand-figures .ensures
+    c .before .before .before .before .before .before .strand-figures .ensures
     ∙ ap₂ strandFigures (looked-at (x .second) (x .b) (counts c .before .counted .ensures .0)) (looked-at (x .second) (x .b-errors) (counts c .counted2 .ensures .0))
 
-c-is : (c : tie.After-metrics-record) → c .before .before .before .figures-of .result ≡ figuresC (asked c)
+c-is : (c : tie.After-metrics-record) → c .before .before .before .before .figures-of .result ≡ figuresC (asked c)
 unfolding recordFigures
 c-is c =
     let x = asked c in
-    c .before .before .before .figures-of .ensures
+    c .before .before .before .before .figures-of .ensures
     ∙ ap (λ (l : List ℕ). recordFigures (x .a) l (x .errors)) (looked-at (x .second) (x .b) (counts c .before .counted .ensures .0))
 
-record-is : (c : tie.After-metrics-record) → c .metrics-record .result ≡ metricsRecord (figuresA (asked c)) (figuresB (asked c)) (figuresC (asked c)) (noCalls (asked c .bases))
-record-is c = c .metrics-record .ensures ∙ same-record (c .before .before .strand-figures2 .ensures) (b-is c) (c-is c) (c .before .no-calls .ensures)
+nc-is : (c : tie.After-metrics-record) → c .before .no-calls .result ≡ noCalls (asked c)
+nc-is c =
+    let x = asked c in
+    c .before .no-calls .ensures ∙ ap (λ (l : List ℕ). recordNoCalls (x .a) l (x .bases)) (looked-at (x .second) (x .b) (counts c .before .counted .ensures .0))
+
+record-is : (c : tie.After-metrics-record) → c .metrics-record .result ≡ metricsRecord (figuresA (asked c)) (figuresB (asked c)) (figuresC (asked c)) (noCalls (asked c))
+record-is c = c .metrics-record .ensures ∙ same-record (c .before .before .before .strand-figures2 .ensures) (b-is c) (c-is c) (nc-is c)
 
 returns-2 : tie.Need-returns-2
 unfolding metricsOf
@@ -88,6 +93,7 @@ duplex-metrics-spec =
     (λ c. search needs) (λ c. search needs) (λ c. search needs)
     figures-of-requires
     strand-figures-requires-2
+    (λ c. search needs) (λ c. search needs) (λ c. search needs)
     no-calls-requires
     (λ c κs. tt)
     returns-2)
