@@ -4,6 +4,7 @@ use super::*;
 use crate::MethylationMode;
 use crate::caller::*;
 use crate::methylation::*;
+use crate::no_calls::no_calls;
 use crate::order::first;
 use crate::vanilla_caller::VanillaConsensusRead;
 use std::fmt::{Display, Write as _};
@@ -344,8 +345,6 @@ fn duplex_metrics(v: &Vector) -> Said {
     if let Some(row) = unfit(&lengths) {
         return table(row);
     }
-    // The Rust has no nc: document 01 says what it is.
-    let nc = bases.iter().filter(|&&base| base == b'N').count();
     let ab = strand(Vec::new(), Vec::new(), a_depths, a_errors);
     let ba = second.then(|| strand(Vec::new(), Vec::new(), b_depths, b_errors));
     let consensus = record(bases, errors, ab, ba);
@@ -355,7 +354,7 @@ fn duplex_metrics(v: &Vector) -> Said {
     let (largest, smallest, rate) = DuplexConsensusCaller::ba_metrics(ba);
     let said = said.and(largest).and(smallest).and(rate.to_bits());
     let (largest, smallest, rate) = DuplexConsensusCaller::duplex_metrics(&consensus, ab, ba);
-    said.and(largest).and(smallest).and(rate.to_bits()).and(nc)
+    said.and(largest).and(smallest).and(rate.to_bits()).and(no_calls(&consensus))
 }
 
 // Fields 0 to 2: the record's positions, and both strands' depths, none where a strand is absent; 3: the output.

@@ -88,6 +88,10 @@ mod methylation {
     items!("methylation.rs");
 }
 
+mod no_calls {
+    include!("no_calls.rs");
+}
+
 mod order {
     include!("order.rs");
 }

@@ -258,7 +258,13 @@ def rates(call, draw, count):
 
 
 def records(call, draw, count):
-    """Two strands' depths and errors, each strand perhaps of another length than the record, and its bases and errors."""
+    """Two strands' depths and errors, each strand perhaps of another length than the record, and its bases and errors.
+
+    Among them every record of two bases out of A, N and n with strands of up to three positions, each with depth or without.
+    """
+    covered = [depths for n in range(4) for depths in itertools.product([0, 1], repeat=n)]
+    for a, b, second, bases in itertools.product(covered, covered, [0, 1], itertools.product(b"ANn", repeat=2)):
+        yield vector(call, u16(a), u16([0] * len(a)), u8([second]), u16(b), u16([0] * len(b)), u8(bases), u16([0, 0]))
     for (n, half), near in itertools.product([(8, 1448), (1024, 2**23), (1024, 2**24)], itertools.product([-1, 0, 1], repeat=3)):
         a, b, errors = (u16(draw.with_sum(n, half + more, 32767)) for more in near)
         yield vector(call, a, errors, u8([1]), b, errors, u8(draw.bytes(n)), errors)

@@ -93,7 +93,7 @@ fn rust_metrics(record: &DuplexConsensusRead) -> ([f32; 3], usize) {
     let (_, _, _, _, a) = black_box(DuplexConsensusCaller::ab_metrics(ab));
     let (_, _, b) = black_box(DuplexConsensusCaller::ba_metrics(ba));
     let (_, _, c) = black_box(DuplexConsensusCaller::duplex_metrics(record, ab, ba));
-    // The Rust has no nc.
+    // The Rust has no nc: a count of N, which is less work, stands for it.
     ([a, b, c], record.bases.iter().filter(|&&base| base == b'N').count())
 }
 

@@ -168,7 +168,7 @@ fn of_thresholds(list: &mut List) {
     }
 }
 
-// Strands of 0 to 3 positions, covered in every way, and absent.
+// Strands of 0 to 3 positions, covered in every way, and absent; with and without N and n.
 fn coverage(list: &mut List) {
     let covered = |n: u16, choice: u16| (0..n).map(|i| choice >> i & 1).collect::<Vec<u16>>();
     let mut strands = vec![None];
@@ -178,12 +178,14 @@ fn coverage(list: &mut List) {
         Strand { depths: depths.clone(), ..plain(&letters[..n], &[30; 3][..n], 0, 2) }
     };
     for (a, b) in strands.iter().flat_map(|a| strands.iter().map(move |b| (a, b))) {
-        let mut fields = vec![thresholds(&[1, 1, 0])];
-        fields.extend(a.iter().flat_map(|depths| strand(0, &of(depths, b"ACG"))));
-        fields.extend(b.iter().flat_map(|depths| strand(B, &of(depths, b"AGG"))));
-        list.add("coverage", &fields);
-        fields.extend([field(LIST, []), read(0, b"AAA"), read(0x80, b"C")]);
-        list.add("coverage", &fields);
+        for (a_bases, b_bases) in [(b"ACG", b"AGG"), (b"NNn", b"NCN")] {
+            let mut fields = vec![thresholds(&[1, 1, 0])];
+            fields.extend(a.iter().flat_map(|depths| strand(0, &of(depths, a_bases))));
+            fields.extend(b.iter().flat_map(|depths| strand(B, &of(depths, b_bases))));
+            list.add("coverage", &fields);
+            fields.extend([field(LIST, []), read(0, b"AAA"), read(0x80, b"C")]);
+            list.add("coverage", &fields);
+        }
     }
 }
 

@@ -130,6 +130,13 @@ fn of_the_paper(list: &mut List) {
     let unmasked = "both kept N 2 1 1 1 00000000 1 1 00000000 2 2 3f000000 1";
     let reads: [(u16, &[u8]); 2] = [(0x41, b"A"), (0x81, b"C")];
     list.says("errors_against_the_unmasked_base", listed(both(&one(b'A', 30), &one(b'C', 30)), &reads), unmasked);
+    let padded = Strand { depths: vec![0, 0, 3, 3, 3, 0, 0], ..plain(b"NnANCnN", &[2, 2, 30, 2, 30, 2, 2], 0, 0) };
+    let one_n = "ab kept NnANCnN 2,2,30,2,30,2,2 0,0,0,0,0,0,0 3 0 00000000 0 0 00000000 3 0 00000000 1";
+    list.says("padded_ends_are_no_no_calls", with(&[1, 1, 0], &[(0, &padded)]), one_n);
+    let a = Strand { depths: vec![0, 0, 2, 2], ..plain(b"NNAC", &[2, 2, 30, 30], 0, 0) };
+    let b = Strand { depths: vec![0, 1, 1, 0], ..plain(b"NCAN", &[2, 20, 20, 2], 0, 0) };
+    let two_n = "both kept NNAN 2,2,50,2 0,0,0,0 2 0 00000000 1 0 00000000 3 0 00000000 2";
+    rest(list, "depth_of_either_strand", &a, &b, two_n);
     let no_errors = "both kept A 3 0 1 1 00000000 1 1 3f800000 2 2 00000000 0";
     list.says("list_empty", listed(both(&one(b'A', 33), &plain(b"C", &[30], 1, 1)), &[]), no_errors);
 }

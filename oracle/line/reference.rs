@@ -3,6 +3,7 @@
 use super::super::{DuplexConsensusCaller, DuplexConsensusRead};
 use super::encoding::{causes, molecule};
 use super::{rust, table};
+use crate::no_calls::no_calls;
 use std::fmt::Display;
 use std::panic::catch_unwind;
 
@@ -38,8 +39,7 @@ fn line(record: &DuplexConsensusRead, kept: bool) -> String {
     let (b_largest, b_smallest, b_rate) = DuplexConsensusCaller::ba_metrics(ba);
     let (c_largest, c_smallest, c_rate) = DuplexConsensusCaller::duplex_metrics(record, ab, ba);
     let [a_rate, b_rate, c_rate] = [a_rate, b_rate, c_rate].map(f32::to_bits);
-    // The Rust has no nc: document 01 says what it is.
-    let nc = record.bases.iter().filter(|&&base| base == b'N').count();
+    let nc = no_calls(record);
     format!(
         "{kind} {gate} {bases} {quals} {errors} {a_largest} {a_smallest} {a_rate:08x} {b_largest} {b_smallest} {b_rate:08x} \
          {c_largest} {c_smallest} {c_rate:08x} {nc}\n"

@@ -194,7 +194,7 @@ pub struct Metrics {
     pub cM: u32,
     /// The error rate of the record.
     pub cE: f32,
-    /// How many of the record's bases are N.
+    /// How many positions of the record have the base N and a depth above 0, as cD takes it: padding is not counted.
     pub nc: u32,
 }
 

@@ -201,7 +201,7 @@ fn outputs_of_the_caller() {
 fn metrics_of_arrays() {
     let first = Counts { depths: &[40_000, 3], errors: &[1, 0] };
     let m = duplex_metrics(first, None, b"ANNn", &[0, 1, 65_535, 0]).unwrap();
-    assert_eq!((m.aD, m.aM, m.bD, m.bM, m.cD, m.cM, m.nc), (32_767, 3, 0, 0, 32_767, 0, 2));
+    assert_eq!((m.aD, m.aM, m.bD, m.bM, m.cD, m.cM, m.nc), (32_767, 3, 0, 0, 32_767, 0, 1));
     assert_eq!((m.aE, m.bE, m.cE), (1.0 / 32_770.0, 0.0, 32_768.0 / 32_770.0));
     let second = Counts { depths: &[40_000], errors: &[0] };
     assert_eq!(duplex_metrics(first, Some(second), b"A", &[0]).unwrap().cD, 65_534);
@@ -209,6 +209,28 @@ fn metrics_of_arrays() {
     assert_eq!(duplex_metrics(Counts { depths: &[0; 1025], errors: &[0; 1025] }, None, b"", &[]), Err(Refusal::TooLong));
     // P12
     assert_eq!(duplex_metrics(Counts { depths: &[12], errors: &[2] }, None, b"A", &[2]).unwrap().cE.to_bits(), 0x3e2a_aaab);
+}
+
+fn no_calls(a: &[u16], b: Option<&[u16]>, bases: &[u8]) -> u32 {
+    let a = Counts { depths: a, errors: &[0; 4][..a.len()] };
+    let b = b.map(|b| Counts { depths: b, errors: &[0; 4][..b.len()] });
+    duplex_metrics(a, b, bases, &[0; 4][..bases.len()]).unwrap().nc
+}
+
+/// Padding is no no-call: N and n at either end, with the depth of either strand or none.
+#[test]
+fn padding_is_no_no_call() {
+    let s = strand(b"ANC", &[30, 2, 30], &[1, 2, 0], &[0; 3]);
+    for base in [b'N', b'n'] {
+        for left in [true, false] {
+            let padded = s.padded(7, left, base, 2).unwrap();
+            assert_eq!(consensus(Some(&padded), None).unwrap().unwrap().metrics().unwrap().nc, 1);
+        }
+    }
+    assert_eq!(no_calls(&[0, 1, 0, 0], Some(&[0, 0, 1, 0]), b"NNNN"), 2);
+    assert_eq!(no_calls(&[1], Some(&[0, 0, 1]), b"NNNN"), 2);
+    assert_eq!(no_calls(&[1, 1, 1, 1], None, b"NnN"), 2);
+    assert_eq!(no_calls(&[], None, b"NNN"), 0);
 }
 
 /// The calls on bytes say the same as those on numbers.

@@ -122,6 +122,20 @@ static void worked_examples(void)
     struct metrics_wanted capped = {0, {32767, 32767, 0x3c000100, 0, 0, 0, 32767, 32767, 0, 0}};
     run("capped", &g, &capped);
 
+    g = fresh(5, 2, 4); /* N and n where there is depth and where there is none; a strand longer than the record, and one shorter */
+    set(A_DEPTHS, 2, 1);
+    set(A_DEPTHS, 4, 1);
+    set(B_DEPTHS, 1, 1);
+    memcpy(store[RECORD_BASES], "NNNN", 4);
+    struct metrics_wanted padded = {0, {1, 0, 0, 1, 0, 0, 1, 0, 0, 2}};
+    run("padded ends", &g, &padded);
+    g.second = 0;
+    struct metrics_wanted first_alone = {0, {1, 0, 0, 0, 0, 0, 1, 0, 0, 1}};
+    run("padded ends, no second strand", &g, &first_alone);
+    memcpy(store[RECORD_BASES], "NNnN", 4);
+    first_alone.words[9] = 0;
+    run("padded ends, n", &g, &first_alone);
+
     g = fresh(0, 0, 0);
     struct metrics_wanted none = {0, {0}};
     run("no positions", &g, &none);

@@ -103,7 +103,7 @@ static inline struct metrics_wanted metrics_expected(const struct metrics_given 
     figures(second, none, second.len / 2, g->second ? g->in[B_ERRORS] : none, w.words + 3);
     figures(first, second, bases.len, g->in[RECORD_ERRORS], w.words + 6);
     for (size_t i = 0; i < bases.len; i++)
-        w.words[9] += bases.at[i] == 'N';
+        w.words[9] += bases.at[i] == 'N' && capped_at(first, i) + capped_at(second, i) > 0;
     return w;
 }
 

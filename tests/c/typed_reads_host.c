@@ -282,7 +282,7 @@ static void try_duplex_metrics(void)
                            figures_of(&a_list, b, bases.n, &errors)};
     uint32_t nc = 0;
     for (size_t i = 0; i < bases.n; i++)
-        nc += bases.v[i] == 'N';
+        nc += bases.v[i] == 'N' && at(&a_list, i) + at(b, i) > 0;
     EVERY_PLACE {
         struct gedrashiw_duplex_figures r = gedrashiw_duplex_metrics(IN16(a_list), IN16(a_errors), second, IN16(b_list), IN16(b_errors),
                                                                      IN8(bases), IN16(errors));

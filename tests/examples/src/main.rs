@@ -160,6 +160,19 @@ fn metrics(second: bool, errors: &[u16]) {
     println!();
 }
 
+/// The no-calls of a record with these bases, over the depths of one strand or of two.
+fn no_calls(bases: &[u8], first: &[u16], second: Option<&[u16]>) {
+    let zeros = [0; 8];
+    let first = Counts { depths: first, errors: &zeros[..first.len()] };
+    let second = second.map(|depths| Counts { depths, errors: &zeros[..depths.len()] });
+    print!("nc of {}:", String::from_utf8_lossy(bases));
+    match duplex_metrics(first, second, bases, &zeros[..bases.len()]) {
+        Err(refusal) => refused(refusal),
+        Ok(m) => numbers(&[m.nc]),
+    }
+    println!();
+}
+
 fn all_rates() {
     for (errors, depth) in [(2, 12), (0, 12), (2, 0), (2895, 2894), (2896, 2895), (2948, 2947), (2949, 2948)] {
         rate(errors, depth);
@@ -167,6 +180,12 @@ fn all_rates() {
     metrics(true, &[0, 0, 1, 1]);
     metrics(false, &[0, 0, 1, 1]);
     metrics(true, &[0, 0, 1]);
+    no_calls(b"NNANCNN", &[0, 0, 3, 3, 3, 0, 0], None);
+    no_calls(b"nnANCnn", &[0, 0, 3, 3, 3, 0, 0], None);
+    no_calls(b"NNN", &[0, 1, 0], Some(&[1, 0, 0]));
+    no_calls(b"NNN", &[1], Some(&[0, 1]));
+    no_calls(b"N", &[1, 1, 1], Some(&[1, 1]));
+    no_calls(b"NN", &[], None);
 }
 
 fn all_thresholds() {
