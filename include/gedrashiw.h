@@ -414,7 +414,8 @@ struct gedrashiw_figures
 gedrashiw_strand_metrics(const uint16_t *depths, size_t depths_len,
                          const uint16_t *errors, size_t errors_len);
 
-/* Largest depth, smallest depth and error rate of the first strand (a), the second (b) and both (c), and the number of bases N. */
+/* Largest depth, smallest depth and error rate of the first strand (a), the second (b) and both (c), and the
+ * number of no-calls: positions whose base is N and whose depth in both together, as cD takes it, is above 0. So padding is none. */
 struct gedrashiw_duplex_figures {
     uint8_t refused;
     uint32_t aD, aM, aE, bD, bM, bE, cD, cM, cE, nc;
@@ -587,10 +588,11 @@ uint8_t gedrashiw_is_cpg_context(const uint8_t *ref_seq, size_t ref_seq_len, siz
  *           at  0  aD   largest depth of the first strand        at 24  cD   largest depth of both
  *           at  4  aM   smallest                                 at 28  cM   smallest
  *           at  8  aE   error rate                               at 32  cE   error rate
- *           at 12  bD   largest depth of the second strand       at 36  nc   number of bases N
+ *           at 12  bD   largest depth of the second strand       at 36  nc   number of no-calls
  *           at 16  bM   smallest
  *           at 20  bE   error rate
- *       A rate is the 32 bits of an IEEE 754 binary32, never a NaN. Bytes past these 40 are left as they were.
+ *       A rate is the 32 bits of an IEEE 754 binary32, never a NaN. A no-call is a position whose base is N and whose depth in both
+ *       strands together, as cD takes it, is above 0: padding is none. Bytes past these 40 are left as they were.
  *
  * Answers 0, or 13, 7, 8 or 12.
  */
