@@ -3,7 +3,6 @@ use Prim.Native.Nat.{ℕ, _*_, _/_, _≤_}
 use mathlib.Core.Path.{_≡_}
 use mathlib.Core.Bool.{Bool, cond, _||_}
 use mathlib.Core.List.{List}
-use lib.ListN.{length}
 use Rattle.lists.specs.Output.{put}
 use Rattle.refusals.specs.Refusal.{refusal, refuseIf}
 use Rattle.methylation.specs.declared.Annotation.{Annotation}

@@ -5,7 +5,7 @@
 --     numbers-fit      what was read of these is there; plain-within: and is the strand without annotation within that size
 --     Room             five arrays of one size; read-fits, read-within: what was read to them is there, and is the strand within that size
 -- Assumes nothing.
-use mathlib.Core.Path.{_≡_, refl, sym, ap, _∙_}
+use mathlib.Core.Path.{_≡_, sym, ap, _∙_}
 use mathlib.Core.Bool.{Bool, true, false}
 use mathlib.Core.List.{List, []}
 use Prim.Native.Nat.{ℕ, _-_, _/_, _≤_, min}

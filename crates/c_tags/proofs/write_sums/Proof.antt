@@ -1,5 +1,5 @@
 -- `c_tags::write_sums` meets its contract: each kind is read and written by its own call. Assumes nothing.
-use mathlib.Core.Path.{_≡_, refl, sym, ap₂, _∙_}
+use mathlib.Core.Path.{refl, sym, ap₂, _∙_}
 use mathlib.Core.List.{List}
 use Prim.Native.Nat.{ℕ}
 use denote.Ref.{now}

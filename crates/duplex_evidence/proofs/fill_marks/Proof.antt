@@ -1,6 +1,6 @@
 -- `duplex_evidence::fill_marks` meets its contract: its loop fills the output with the marks. Assumes nothing.
 use Prim.Native.Nat.{_-_}
-use mathlib.Core.Path.{ap, _∙_}
+use mathlib.Core.Path.{ap}
 use native.Mathlib.Omega.{arith}
 use Rattle.lists.specs.Table.{tabulate}
 use Rattle.lists.proofs.Output.{Filling, same, fits, done}
