@@ -1,36 +1,44 @@
 -- Laws of a record's depths.
---     depth-step, depths-all     a loop that folds them, one position a turn
---     depth-bound                each is at most 65,534
+--     depths-length, depths-at   how many there are, and each
+--     capped-length, capped-at   the same of a strand's capped depths or errors
+--     depth-bound, short-bound   each is at most 65,534, and a strand's 32,767
 --     one-strand                 beside an empty strand they are the other's capped depths
 --     depths-sum, capped-sum     their sum, and a strand's, by the number of positions
 -- Assumes nothing.
-use mathlib.Core.Path.{_≡_, refl, sym, ap₂, _∙_}
+use mathlib.Core.Path.{_≡_, refl, ap, ap₂}
 use mathlib.Core.List.{List, [], _∷_, foldl}
 use Prim.Native.Nat.{ℕ, zero, suc, _+_, _*_, _≤_, _<_}
 use native.Mathlib.Nat.{add-zero}
 use native.Mathlib.Omega.{arith}
-use lib.ListN.{length, take}
+use lib.ListN.{length, getD}
 use Rattle.lists.specs.Table.{tabulate}
-use Rattle.lists.proofs.Fold.{fold-step, fold-all}
 use Rattle.lists.proofs.Table.{length-tabulate, getD-tabulate}
 use Rattle.numbers.specs.Numbers.{total}
 use Rattle.caller.specs.Short.{short}
 use Rattle.duplex_metrics.specs.Metrics.{capped, recordDepth, recordDepths}
 
-module _ (f : ℕ → ℕ → ℕ) (start positions : ℕ) (a b : List ℕ) where
-  pub depth-step :
-      {i v so-far : ℕ}
-      → i < positions
-      → so-far ≡ foldl f start (take i (recordDepths positions a b))
-      → v ≡ recordDepth a b i
-      → f so-far v ≡ foldl f start (take (i + 1) (recordDepths positions a b))
-  unfolding recordDepths
-  depth-step {i} h s e =
-      fold-step f start (tabulate positions (recordDepth a b)) i 0 (omega (arith, length-tabulate positions (recordDepth a b))) s (e ∙ sym (getD-tabulate positions (recordDepth a b) i 0 h))
+pub depths-length : (n : ℕ) (a b : List ℕ) → length (recordDepths n a b) ≡ n
+unfolding recordDepths
+depths-length n a b = length-tabulate n (recordDepth a b)
 
-  pub depths-all : {i : ℕ} → positions ≤ i → foldl f start (take i (recordDepths positions a b)) ≡ foldl f start (recordDepths positions a b)
-  unfolding recordDepths
-  depths-all {i} h = fold-all f start (tabulate positions (recordDepth a b)) i (omega (arith, length-tabulate positions (recordDepth a b)))
+pub depths-at : (n : ℕ) (a b : List ℕ) (i : ℕ) → i < n → getD (recordDepths n a b) i 0 ≡ recordDepth a b i
+unfolding recordDepths
+depths-at n a b i h = getD-tabulate n (recordDepth a b) i 0 h
+
+pub capped-length : (xs : List ℕ) → length (capped xs) ≡ length xs
+unfolding capped
+capped-length [] = refl
+capped-length (x ∷ xs) = ap suc (capped-length xs)
+
+pub capped-at : (xs : List ℕ) (i : ℕ) → getD (capped xs) i 0 ≡ short (getD xs i 0)
+unfolding capped short
+capped-at [] i = refl
+capped-at (x ∷ xs) zero = refl
+capped-at (x ∷ xs) (suc i) = capped-at xs i
+
+pub short-bound : (n : ℕ) → short n ≤ 32767
+unfolding short
+short-bound n = omega arith
 
 pub depth-bound : (a b : List ℕ) (i : ℕ) → recordDepth a b i ≤ 65534
 unfolding recordDepth short

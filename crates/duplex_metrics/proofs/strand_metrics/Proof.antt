@@ -1,11 +1,12 @@
 -- `duplex_metrics::strand_metrics` meets its contract: refused by its number, or the strand's figures. Assumes nothing.
 use mathlib.Core.Path.{ap, _∙_}
 use mathlib.Core.List.{[], _∷_}
+use native.Mathlib.Omega.{arith}
 use lib.ListN.{length}
 use denote.Ref.{now}
 use Rattle.lists.proofs.Output.{answer-refused, answer-passed}
-use Rattle.refusals.specs.Refusal.{TooLong}
-use Rattle.refusals.proofs.Condition.{not-too-long}
+use Rattle.refusals.specs.Refusal.{TooLong, Ragged}
+use Rattle.refusals.proofs.Condition.{not-too-long, not-ragged}
 use Rattle.refusals.proofs.Refusal.{passed}
 use Rattle.caller.specs.Rate.{rateFaults}
 use Rattle.duplex_metrics.specs.Metrics.{strandMetrics}
@@ -21,8 +22,12 @@ strand-figures-requires : tie.Need-strand-figures-requires
 unfolding rateFaults
 strand-figures-requires c κs =
     let a = c .before .before .before .before .args in
-    let short = not-too-long (length (now (a .depths)) ∷ length (now (a .errors)) ∷ []) (passed TooLong _ (c .before .rate-refusal .ensures) (c .if1 .left) .0) in
-    (short .0, short .1 .0)
+    let depths = length (now (a .depths)) in
+    let errors = length (now (a .errors)) in
+    let told = c .before .rate-refusal .ensures in
+    let short = not-too-long (depths ∷ errors ∷ []) (passed TooLong _ told (c .if1 .left) .0) in
+    let same = not-ragged depths (errors ∷ []) (passed Ragged _ told (c .if1 .left) .0) .0 in
+    (omega (arith, same), short .1 .0)
 
 returns-2 : tie.Need-returns-2
 unfolding strandMetrics
