@@ -567,7 +567,7 @@ struct gedrashiw_letters gedrashiw_bases(uint8_t pattern);
 uint8_t gedrashiw_is_cpg_context(const uint8_t *ref_seq, size_t ref_seq_len, size_t pos, uint8_t is_top_strand);
 
 /* ==== As bytes: combination, metrics and methylation tags where numbers of more than one byte are passed as bytes, low byte first,
- * whatever the host's own order. A length is a number of bytes, and bytes need no alignment. gedrashiw_metrics uses about 12 KB of stack,
+ * whatever the host's own order. A length is a number of bytes, and bytes need no alignment. gedrashiw_metrics uses about 18 KB of stack,
  * gedrashiw_duplex_consensus about 58 KB, gedrashiw_methylation_tags about 35 KB. ==== */
 
 /* The bytes that gedrashiw_metrics writes. */
