@@ -17,7 +17,7 @@ use molecule_evidence::{POSITION_BYTES, write_evidence};
 use refusals::OUTPUT_TOO_SHORT;
 
 // How many positions are written, and whether evidence of the first strand and of the second.
-#[derive(Drop)]
+#[derive(Clone, Copy)]
 pub struct Written {
     pub positions: usize,
     pub first: bool,

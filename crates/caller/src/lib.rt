@@ -16,14 +16,14 @@ use refusals::{MAX_POSITIONS, OUTPUT_TOO_SHORT, RAGGED, TOO_LONG, refuse_if};
 // The largest Short, fgbio's ceiling of a depth or an error count at a position.
 pub const FGBIO_SHORT_DEPTH_MAX: u16 = 32767;
 
-#[derive(Drop)]
+#[derive(Clone, Copy)]
 pub enum ReadName {
     Refused(u8),
     // The name has so many bytes.
     Written(usize),
 }
 
-#[derive(Drop)]
+#[derive(Clone, Copy)]
 pub enum ErrorRate {
     Refused(u8),
     Rate(f32),

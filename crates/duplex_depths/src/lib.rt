@@ -10,14 +10,14 @@ use lists::{at_u16, smaller};
 use numbers::{max_u16, min_u16, saturating_add_u16};
 use refusals::{MAX_POSITIONS, OUTPUT_TOO_SHORT, TOO_LONG, refuse_if};
 
-#[derive(Drop)]
+#[derive(Clone, Copy)]
 pub enum CombinedDepths {
     Refused(u8),
     // As many depths are written as the record has positions.
     Written(usize),
 }
 
-#[derive(Drop)]
+#[derive(Clone, Copy)]
 pub enum DepthRange {
     Refused(u8),
     Range { min: u16, max: u16 },

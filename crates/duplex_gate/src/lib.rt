@@ -9,7 +9,7 @@ use numbers::max_u16;
 use refusals::{MAX_POSITIONS, TOO_LONG, refuse_if};
 
 // A depth of each strand.
-#[derive(Drop)]
+#[derive(Clone, Copy)]
 struct Depths {
     ab: u16,
     ba: u16,

@@ -10,7 +10,7 @@ use refusals::{MAX_READS, PART_OUTSIDE, RAGGED, TOO_LONG, TOO_MANY_READS, refuse
 use vanilla_caller::{Lengths, strand_ragged, strand_too_long};
 
 // The record's kind, and how many positions it has.
-#[derive(Drop)]
+#[derive(Clone, Copy)]
 pub enum DuplexConsensus {
     Refused(u8),
     NoRecord,
@@ -22,7 +22,7 @@ pub enum DuplexConsensus {
 }
 
 // What is given of a strand: whether it is there, its annotation, and how long its arrays are.
-#[derive(Drop)]
+#[derive(Clone, Copy)]
 pub struct GivenStrand {
     pub present: bool,
     pub annotation: Annotation,

@@ -15,7 +15,7 @@ use rates::error_rate;
 use refusals::{MAX_POSITIONS, RAGGED, TOO_LONG, refuse_if};
 
 // Of a strand or a record: the largest and the smallest depth, the summed depths and the summed errors; each 0 over no positions.
-#[derive(Drop)]
+#[derive(Clone, Copy)]
 pub struct Figures {
     pub largest: u32,
     pub smallest: u32,
@@ -23,7 +23,7 @@ pub struct Figures {
     pub errors: u32,
 }
 
-#[derive(Drop)]
+#[derive(Clone, Copy)]
 pub enum StrandMetrics {
     Refused(u8),
     Of(Figures),
@@ -31,7 +31,7 @@ pub enum StrandMetrics {
 
 // A record's tags by their names: D the largest depth, M the smallest, E the error rate, of the first strand (a), the second (b)
 // and both (c). nc is the number of positions whose base is N and whose depth, that behind c, is above 0.
-#[derive(Drop)]
+#[derive(Clone, Copy)]
 pub struct MetricsRecord {
     pub aD: u32,
     pub aM: u32,
@@ -45,14 +45,14 @@ pub struct MetricsRecord {
     pub nc: u32,
 }
 
-#[derive(Drop)]
+#[derive(Clone, Copy)]
 pub enum Metrics {
     Refused(u8),
     Of(MetricsRecord),
 }
 
 // How long each array is that a call is given, and whether there is a second strand.
-#[derive(Drop)]
+#[derive(Clone, Copy)]
 pub struct MetricsLengths {
     pub a: usize,
     pub aErrors: usize,
@@ -64,7 +64,7 @@ pub struct MetricsLengths {
 }
 
 // The figures of the positions so far, and how many of them are no-calls: handed on by value, one position at a time.
-#[derive(Drop)]
+#[derive(Clone, Copy)]
 pub struct Running {
     pub largest: u16,
     pub smallest: u16,

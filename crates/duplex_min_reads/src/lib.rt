@@ -7,26 +7,26 @@ use numbers::{max_u32, min_u32};
 use refusals::{NO_THRESHOLDS, TOO_MANY_THRESHOLDS, XY_ABOVE_TOTAL, YX_ABOVE_XY, refuse_if};
 
 // The least number of reads of a molecule, of its better covered strand (XY) and of the other (YX).
-#[derive(Drop)]
+#[derive(Clone, Copy)]
 pub struct MinReads {
     pub total: u32,
     pub xy: u32,
     pub yx: u32,
 }
 
-#[derive(Drop)]
+#[derive(Clone, Copy)]
 pub enum Validated {
     Refused(u8),
     Thresholds(MinReads),
 }
 
-#[derive(Drop)]
+#[derive(Clone, Copy)]
 pub enum YxReads {
     Refused(u8),
     AtLeast(u32),
 }
 
-#[derive(Drop)]
+#[derive(Clone, Copy)]
 pub enum SingleStrand {
     Refused(u8),
     Allowed,

@@ -7,7 +7,7 @@ use dna::{NO_CALL_BASE, to_ascii_uppercase};
 use methylation::{Annotation, ConversionPattern};
 
 // The methylation call at a position.
-#[derive(Drop)]
+#[derive(Clone, Copy)]
 pub enum MoleculeCall {
     NoCall,
     Call {
@@ -21,7 +21,7 @@ pub enum MoleculeCall {
 }
 
 // The strand of pattern C to T, where both are annotated and their patterns differ.
-#[derive(Drop)]
+#[derive(Clone, Copy)]
 pub enum CtInput {
     Neither,
     IsA,

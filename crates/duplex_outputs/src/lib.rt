@@ -6,7 +6,7 @@ ghost use Rattle.duplex_outputs.specs.Outputs.{record_too_short};
 use methylation::{EvidenceLengths, evidence_too_short};
 
 // How many places each output has: the record's own, and those of the evidence of A and of B.
-#[derive(Drop)]
+#[derive(Clone, Copy)]
 pub struct RecordLengths {
     pub bases: usize,
     pub quals: usize,

@@ -13,7 +13,7 @@ use refusals::{
 pub type MiPart = [usize; 3];
 
 // The strand that an MI names by its last two bytes.
-#[derive(Drop)]
+#[derive(Clone, Copy)]
 pub enum MiStrand {
     A,
     B,
@@ -21,20 +21,20 @@ pub enum MiStrand {
 }
 
 // The first read's MI without its last two bytes, as a part of the caller's bytes. No reads have none.
-#[derive(Drop)]
+#[derive(Clone, Copy)]
 pub enum BaseMi {
     Absent,
     Part { offset: usize, length: usize },
 }
 
-#[derive(Drop)]
+#[derive(Clone, Copy)]
 pub enum Partition {
     Refused(u8),
     // So many read numbers are written to the list of A and to that of B.
     Partitioned { a: usize, b: usize, base_mi: BaseMi },
 }
 
-#[derive(Drop)]
+#[derive(Clone, Copy)]
 struct Counts {
     a: usize,
     b: usize,

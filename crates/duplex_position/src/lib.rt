@@ -7,7 +7,7 @@ use dna::NO_CALL_BASE;
 use phred::{MIN_PHRED, cap_quality};
 
 // The base and quality of the record, and the base before masking, which errors are counted against.
-#[derive(Drop)]
+#[derive(Clone, Copy)]
 pub struct Position {
     pub base: u8,
     pub qual: u8,

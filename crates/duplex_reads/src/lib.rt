@@ -17,7 +17,7 @@ pub const R2_FLAGS: u16 = 141;
 pub const FRAGMENT_FLAGS: u16 = 4;
 
 // The place of a consensus read in its template.
-#[derive(Drop)]
+#[derive(Clone, Copy)]
 pub enum ReadType {
     Fragment,
     R1,
@@ -25,14 +25,14 @@ pub enum ReadType {
 }
 
 // The consensus gates' answer.
-#[derive(Drop)]
+#[derive(Clone, Copy)]
 pub enum Gate {
     Refused(u8),
     Kept,
     Below,
 }
 
-#[derive(Drop)]
+#[derive(Clone, Copy)]
 pub enum SameStrand {
     Refused(u8),
     Same,

@@ -14,7 +14,7 @@ use methylation::Annotation;
 use vanilla_caller::lengths_of;
 
 // What is said of a position.
-#[derive(Drop)]
+#[derive(Clone, Copy)]
 pub enum NoCallReason {
     Refused(u8),
     // Past the record, or there is none.
@@ -37,7 +37,7 @@ pub enum NoCallReason {
 }
 
 // What a strand shows at a position, and its annotation.
-#[derive(Drop)]
+#[derive(Clone, Copy)]
 pub struct Shown {
     pub annotation: Annotation,
     pub base: u8,

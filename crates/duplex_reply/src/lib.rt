@@ -7,7 +7,7 @@ use duplex_kind::DuplexConsensus;
 // What a duplex record is: `refused` is the refusal's number, 0 for none; kind 0 is no record, 1 strand A alone, 2 strand B alone,
 // 3 both.
 #[repr(C)]
-#[derive(Drop)]
+#[derive(Clone, Copy)]
 pub struct DuplexRecord {
     pub refused: u8,
     pub kind: u8,

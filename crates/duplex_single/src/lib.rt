@@ -15,7 +15,7 @@ use methylation::{Annotation, EvidenceLengths, evidence_if, evidence_places, is_
 use refusals::{OUTPUT_TOO_SHORT, RAGGED, TOO_LONG, refuse_if};
 use vanilla_caller::{Lengths, lengths_of, strand_ragged, strand_too_long};
 
-#[derive(Drop)]
+#[derive(Clone, Copy)]
 pub enum SingleStrandRecord {
     Refused(u8),
     // The record is written, with so many positions.

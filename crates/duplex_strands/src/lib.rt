@@ -16,7 +16,7 @@ use methylation::{Annotation, EvidenceLengths, is_annotated};
 use refusals::{OUTPUT_TOO_SHORT, RAGGED, TOO_LONG, refuse_if};
 use vanilla_caller::{Lengths, strand_ragged, strand_too_long};
 
-#[derive(Drop)]
+#[derive(Clone, Copy)]
 pub enum Combined {
     Refused(u8),
     // So many positions are written.

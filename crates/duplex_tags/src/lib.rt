@@ -13,7 +13,7 @@ use methylation::{Annotation, EvidenceLengths, MethylationMode, is_annotated};
 use methylation_evidence::{summed_counts, unconverted_counts};
 use refusals::{OUTPUT_TOO_SHORT, refuse_if};
 
-#[derive(Drop)]
+#[derive(Clone, Copy)]
 pub enum DuplexMethylationTags {
     Refused(u8),
     // The sequence and each array of counts that is there have so many positions, each text and the ML array so many bytes: 0 for
@@ -28,7 +28,7 @@ pub enum DuplexMethylationTags {
 }
 
 // How many places each output of one kind of counts has, or how many go there.
-#[derive(Drop)]
+#[derive(Clone, Copy)]
 pub struct KindLengths {
     pub a: usize,
     pub b: usize,

@@ -15,7 +15,7 @@ use methylation_restore::{methylation_strand_bases, restore_unconverted_bases};
 use mm_ml::{MmMl, build_mm_ml_tags};
 use refusals::{MAX_POSITIONS, OUTPUT_TOO_SHORT, RAGGED, TOO_LONG, refuse_if};
 
-#[derive(Drop)]
+#[derive(Clone, Copy)]
 pub enum DuplexTexts {
     Refused(u8),
     // So many bytes are written to each output: 0 for a text that is not there.
@@ -29,7 +29,7 @@ pub enum DuplexTexts {
 }
 
 // How many places each output has, or how many go there.
-#[derive(Drop)]
+#[derive(Clone, Copy)]
 pub struct TextLengths {
     pub seq: usize,
     pub a_mm: usize,
@@ -39,14 +39,14 @@ pub struct TextLengths {
 }
 
 // How many bytes a strand's MM text and ML array have.
-#[derive(Drop)]
+#[derive(Clone, Copy)]
 struct StrandLengths {
     mm: usize,
     ml: usize,
 }
 
 // The same of both strands.
-#[derive(Drop)]
+#[derive(Clone, Copy)]
 struct BothLengths {
     a_mm: usize,
     a_ml: usize,

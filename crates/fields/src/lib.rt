@@ -6,14 +6,14 @@ ghost use Rattle.fields.specs.Encoding.{next_field};
 use byte_numbers::u16_of;
 
 // A field of a byte buffer: its tag, and where its value is.
-#[derive(Drop)]
+#[derive(Clone, Copy)]
 pub struct FieldAt {
     pub tag: u8,
     pub offset: usize,
     pub length: usize,
 }
 
-#[derive(Drop)]
+#[derive(Clone, Copy)]
 pub enum NextField {
     // No bytes are left.
     End,

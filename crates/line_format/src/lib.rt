@@ -16,7 +16,7 @@ pub const HEADER: [u8; 59] = *b"kind gate bases quals errors aD aM aE bD bM bE c
 pub const LINE_BYTES: usize = 12288;
 
 // What a record is made of: strand A, strand B, or both.
-#[derive(Drop)]
+#[derive(Clone, Copy)]
 pub enum Kind {
     Ab,
     Ba,

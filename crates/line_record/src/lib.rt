@@ -12,7 +12,7 @@ use lists::{front_u8, front_u16};
 use metrics_bits::MetricsBits;
 
 // A text: its length, and its bytes at the front of zeros.
-#[derive(Drop)]
+#[derive(Clone, Copy)]
 pub struct Line {
     pub length: usize,
     pub bytes: [u8; 12288],

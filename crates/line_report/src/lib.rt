@@ -14,7 +14,7 @@ use line_format::Kind;
 use lists::{front_u8, front_u16, smaller};
 use metrics_bits::{MetricsBits, MetricsWords, metrics_bits};
 
-#[derive(Drop)]
+#[derive(Clone, Copy)]
 pub enum Report {
     // By the library's call, by the gate or by the metrics.
     Refused(u8),

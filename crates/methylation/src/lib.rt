@@ -9,7 +9,7 @@ use flags::{LAST_SEGMENT, is_set};
 use refusals::MAX_POSITIONS;
 
 // The chemistry, which decides whether a converted base is methylated.
-#[derive(Drop)]
+#[derive(Clone, Copy)]
 pub enum MethylationMode {
     // Conversions are errors, and there are no tags.
     Disabled,
@@ -32,14 +32,14 @@ impl MethylationMode {
 }
 
 // How a read shows conversions, in the orientation in which it was sequenced.
-#[derive(Drop)]
+#[derive(Clone, Copy)]
 pub enum ConversionPattern {
     CToT,
     GToA,
 }
 
 // The reference base that a pattern tracks, and how a read shows it unconverted and converted.
-#[derive(Drop)]
+#[derive(Clone, Copy)]
 pub struct PatternBases {
     pub reference: u8,
     pub unconverted: u8,
@@ -77,14 +77,14 @@ impl ConversionPattern {
 }
 
 // The pattern of a strand's annotation. Without one, the evidence arrays are not looked at.
-#[derive(Drop)]
+#[derive(Clone, Copy)]
 pub enum Annotation {
     Absent,
     Of(ConversionPattern),
 }
 
 // A strand's evidence at one position.
-#[derive(Drop)]
+#[derive(Clone, Copy)]
 pub struct Evidence {
     pub mark: u8,
     pub unconverted: u32,
@@ -92,7 +92,7 @@ pub struct Evidence {
 }
 
 // How long each array of an annotation's evidence is.
-#[derive(Drop)]
+#[derive(Clone, Copy)]
 pub struct EvidenceLengths {
     pub marks: usize,
     pub unconverted: usize,

@@ -21,7 +21,7 @@ use vanilla_caller::mark_of;
 // The largest count of a tag: that of i16. No count is below zero, so u16 stands for i16.
 pub const MAX_TAG_COUNT: u32 = 32767;
 
-#[derive(Drop)]
+#[derive(Clone, Copy)]
 pub enum Positions {
     Refused(u8),
     // So many positions are written.

@@ -7,7 +7,7 @@ ghost use Rattle.metrics_bits.specs.Bits.{Numbers, in_bits, metrics_words};
 use duplex_metrics::{Metrics, MetricsRecord, duplex_metrics};
 
 // A record's tags, of which aE, bE and cE are the bits of 32-bit floats.
-#[derive(Drop)]
+#[derive(Clone, Copy)]
 pub struct MetricsBits {
     pub aD: u32,
     pub aM: u32,
@@ -21,7 +21,7 @@ pub struct MetricsBits {
     pub nc: u32,
 }
 
-#[derive(Drop)]
+#[derive(Clone, Copy)]
 pub enum MetricsWords {
     Refused(u8),
     Of(MetricsBits),

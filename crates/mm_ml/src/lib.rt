@@ -18,7 +18,7 @@ pub const C_TO_T_PREFIX: [u8; 4] = *b"C+m?";
 // The MM group of pattern G to A: 5mC on the opposite strand, at the sequence's Gs.
 pub const G_TO_A_PREFIX: [u8; 4] = *b"G-m?";
 
-#[derive(Drop)]
+#[derive(Clone, Copy)]
 pub enum MmMl {
     Refused(u8),
     // Nothing is called, or the mode is Disabled.
@@ -27,7 +27,7 @@ pub enum MmMl {
     Tags { mm: usize, ml: usize },
 }
 
-#[derive(Drop)]
+#[derive(Clone, Copy)]
 pub enum Mm {
     Refused(u8),
     NoTag,
@@ -35,7 +35,7 @@ pub enum Mm {
 }
 
 // How many bytes go to each output.
-#[derive(Drop)]
+#[derive(Clone, Copy)]
 struct Lengths {
     mm: usize,
     ml: usize,

@@ -13,7 +13,7 @@ use refusals::BROKEN;
 pub const MAX_BYTES: usize = 65536;
 
 // Where a field's value is in the bytes. An absent field's is empty.
-#[derive(Drop)]
+#[derive(Clone, Copy)]
 pub struct Span {
     pub present: bool,
     pub offset: usize,
@@ -22,7 +22,7 @@ pub struct Span {
 
 // Qualities and bases have a byte a position, depths and errors two. An annotation has a pattern byte, 0 C to T, 1 G to A, then
 // nine bytes a position: the mark, unconverted and converted.
-#[derive(Drop)]
+#[derive(Clone, Copy)]
 pub struct StrandFields {
     pub bases: Span,
     pub quals: Span,
@@ -32,7 +32,7 @@ pub struct StrandFields {
 }
 
 // A strand is present where its bases are. The reads are present where there is a list: a run of whole fields 30, to the end.
-#[derive(Drop)]
+#[derive(Clone, Copy)]
 pub struct Molecule {
     pub thresholds: Span,
     pub a: StrandFields,
@@ -40,7 +40,7 @@ pub struct Molecule {
     pub reads: Span,
 }
 
-#[derive(Drop)]
+#[derive(Clone, Copy)]
 pub enum Decoded {
     // By 13.
     Refused(u8),

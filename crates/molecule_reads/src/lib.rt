@@ -10,7 +10,7 @@ use fields::{NextField, next_field};
 use molecule_fields::{is_read, read_flags};
 use source_reads::{SourceRead, add_read_errors, counted_length, expected_bases};
 
-#[derive(Drop)]
+#[derive(Clone, Copy)]
 pub enum NextRead {
     // No bytes are left.
     End,
@@ -21,7 +21,7 @@ pub enum NextRead {
 }
 
 // Whether a run is broken, and how many reads it has up to its end or to where it is broken.
-#[derive(Drop)]
+#[derive(Clone, Copy)]
 pub struct ReadCount {
     pub broken: bool,
     pub count: usize,

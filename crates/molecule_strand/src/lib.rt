@@ -35,7 +35,7 @@ pub fn wrong_pattern(annotated: bool, pattern: u8) -> bool
 }
 
 // A strand by how many bytes each of its arrays is.
-#[derive(Drop)]
+#[derive(Clone, Copy)]
 pub struct ByteCounts {
     pub present: bool,
     pub annotation: Annotation,
@@ -95,7 +95,7 @@ pub fn seen_u8(looked_at: bool, xs: &[u8]) -> &[u8]
 }
 
 // How many numbers were read: depths, errors, and marks with their counts.
-#[derive(Drop)]
+#[derive(Clone, Copy)]
 pub struct StrandCounts {
     pub depths: usize,
     pub errors: usize,
@@ -138,7 +138,7 @@ pub fn read_strand(
 }
 
 // How many depths and errors were read.
-#[derive(Drop)]
+#[derive(Clone, Copy)]
 pub struct NumberCounts {
     pub depths: usize,
     pub errors: usize,

@@ -7,7 +7,7 @@ use methylation::{Annotation, ConversionPattern, MethylationMode};
 
 // `refused` is the refusal's number; where it is 0, so many elements are written to each output.
 #[repr(C)]
-#[derive(Drop)]
+#[derive(Clone, Copy)]
 pub struct Count {
     pub refused: u8,
     pub count: usize,
@@ -15,7 +15,7 @@ pub struct Count {
 
 // `refused` is the refusal's number; where it is 0, the number that was asked for.
 #[repr(C)]
-#[derive(Drop)]
+#[derive(Clone, Copy)]
 pub struct Number {
     pub refused: u8,
     pub number: u32,

@@ -23,7 +23,7 @@ use rust_strand::positions_count;
 
 // Of a strand's tags: `refused` is the refusal's number; where it is 0, `tagged` is 1 where there is a tag, of such lengths, else 0.
 #[repr(C)]
-#[derive(Drop)]
+#[derive(Clone, Copy)]
 pub struct TagsReply {
     pub refused: u8,
     pub tagged: u8,
@@ -33,7 +33,7 @@ pub struct TagsReply {
 
 // Of a record's tags: `refused` is the refusal's number; where it is 0, the length of the sequence and of each text.
 #[repr(C)]
-#[derive(Drop)]
+#[derive(Clone, Copy)]
 pub struct DuplexTagsReply {
     pub refused: u8,
     pub positions: usize,

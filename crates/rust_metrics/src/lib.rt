@@ -16,7 +16,7 @@ use replies::Count;
 
 // `refused` is the refusal's number; where it is 0, the smallest and the largest depth.
 #[repr(C)]
-#[derive(Drop)]
+#[derive(Clone, Copy)]
 pub struct Range {
     pub refused: u8,
     pub min: u16,
@@ -25,7 +25,7 @@ pub struct Range {
 
 // `refused` is the refusal's number; where it is 0, the figures of a strand.
 #[repr(C)]
-#[derive(Drop)]
+#[derive(Clone, Copy)]
 pub struct FiguresReply {
     pub refused: u8,
     pub largest: u32,
@@ -36,7 +36,7 @@ pub struct FiguresReply {
 
 // `refused` is the refusal's number; where it is 0, a record's tags, of which aE, bE and cE are the bits of 32-bit floats.
 #[repr(C)]
-#[derive(Drop)]
+#[derive(Clone, Copy)]
 pub struct MetricsReply {
     pub refused: u8,
     pub aD: u32,

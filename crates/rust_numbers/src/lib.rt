@@ -29,7 +29,7 @@ use replies::{Count, Number, mode_of, pattern_of, wrong_mode, wrong_pattern};
 
 // `refused` is the refusal's number; where it is 0, a pattern's letters.
 #[repr(C)]
-#[derive(Drop)]
+#[derive(Clone, Copy)]
 pub struct Bases {
     pub refused: u8,
     pub reference: u8,
@@ -39,7 +39,7 @@ pub struct Bases {
 
 // The methylation call at a position; where pattern is 0 there is none.
 #[repr(C)]
-#[derive(Drop)]
+#[derive(Clone, Copy)]
 pub struct Call {
     pub pattern: u8,
     pub call: u8,

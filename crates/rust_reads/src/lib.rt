@@ -13,7 +13,7 @@ use replies::Number;
 // `refused` is the refusal's number; where it is 0, so many read numbers are written to the list of A and to that of B, and base_mi
 // is 1 with the base MI's part of the bytes, or 0 without reads.
 #[repr(C)]
-#[derive(Drop)]
+#[derive(Clone, Copy)]
 pub struct PartitionReply {
     pub refused: u8,
     pub base_mi: u8,

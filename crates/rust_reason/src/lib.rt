@@ -14,7 +14,7 @@ use replies::{annotation_of, wrong_annotation};
 // of one strand, 3 called. The record shows N: 4 A alone shows N, 5 B alone, 6 both; 7 the bases differ at equal qualities, 8 at a
 // difference of 1 or 2; 9 the sum of the qualities is at most 2; 10 the confirming quality, which counts alone, is.
 #[repr(C)]
-#[derive(Drop)]
+#[derive(Clone, Copy)]
 pub struct Reason {
     pub refused: u8,
     pub reason: u8,

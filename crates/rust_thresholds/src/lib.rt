@@ -18,7 +18,7 @@ use replies::Number;
 
 // `refused` is the refusal's number; where it is 0, the three thresholds.
 #[repr(C)]
-#[derive(Drop)]
+#[derive(Clone, Copy)]
 pub struct Thresholds {
     pub refused: u8,
     pub total: u32,

@@ -17,7 +17,7 @@ use refusals::MAX_POSITIONS;
 
 // A read: its flags, and where its bases are in a byte buffer.
 #[repr(C)]
-#[derive(Drop)]
+#[derive(Clone, Copy)]
 pub struct SourceRead {
     pub flags: u16,
     pub offset: usize,

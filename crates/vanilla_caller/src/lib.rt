@@ -12,14 +12,14 @@ use methylation::{
 use numbers::{max_u16, min_u16};
 use refusals::{MAX_POSITIONS, TOO_LONG, refuse_if};
 
-#[derive(Drop)]
+#[derive(Clone, Copy)]
 pub enum Depth {
     Refused(u8),
     Of(u16),
 }
 
 // How long each array of a strand is.
-#[derive(Drop)]
+#[derive(Clone, Copy)]
 pub struct Lengths {
     pub bases: usize,
     pub quals: usize,

@@ -16,7 +16,7 @@ use phred::MIN_PHRED;
 use refusals::{BELOW_LENGTH, MAX_POSITIONS, OUTPUT_TOO_SHORT, RAGGED, TOO_LONG, refuse_if};
 use vanilla_caller::{Lengths, lengths_of, outputs_too_short, strand_ragged, strand_too_long};
 
-#[derive(Drop)]
+#[derive(Clone, Copy)]
 pub enum PaddedStrand {
     Refused(u8),
     // The strand is written, with this annotation.
