@@ -1,0 +1,7 @@
+-- `c_tags::write_held` meets its contract: what is held is written, all of it. Assumes nothing.
+use Rattle.c_tags.proofs.Bytes.{counted}
+use Rattle.c_tags.proofs.write_held.Goals as goal
+
+pub returns : goal.returns
+returns c =
+    counted c.args.counts.now c.args.out.now c.requires c.unconverted_counts.ensures.1 c.front_u16.ensures c.write_u16s.ensures

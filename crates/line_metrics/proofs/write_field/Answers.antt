@@ -1,0 +1,10 @@
+-- `line_metrics::write_field` meets its contract: a blank, and the number right behind it. Assumes nothing.
+use native.Mathlib.Omega.{arith}
+use Rattle.line_output.proofs.Text.{then}
+use Rattle.line_metrics.specs.MetricsText.{field}
+use Rattle.line_metrics.proofs.MetricsText.{field_most}
+use Rattle.line_metrics.proofs.write_field.Goals as goal
+
+pub returns : goal.returns
+unfolding field
+returns c = (then c.write_text-at.ensures c.write_number.ensures, field_most c.args.n (omega arith))

@@ -1,0 +1,8 @@
+-- `line_output::write_bits` meets its contract: the digits go to the part of the output from the place on. Assumes nothing.
+use Rattle.line_output.proofs.Text.{sized, placed}
+use Rattle.line_output.proofs.write_bits.Goals as goal
+
+pub returns : goal.returns
+returns c =
+    let a = c.args in
+    placed a.at c.smaller-from.ensures (sized a.out.now c.smaller-from.result c.write_hexadecimal.ensures.0 c.write_hexadecimal.ensures.1 c.smaller.ensures)

@@ -1,0 +1,8 @@
+-- `line_output::write_number` meets its contract: the digits go to the part of the output from the place on. Assumes nothing.
+use Rattle.line_output.proofs.Text.{sized, placed}
+use Rattle.line_output.proofs.write_number.Goals as goal
+
+pub returns : goal.returns
+returns c =
+    let a = c.args in
+    placed a.at c.smaller-from.ensures (sized a.out.now c.smaller-from.result c.write_decimal.ensures.0 c.write_decimal.ensures.1 c.smaller.ensures)

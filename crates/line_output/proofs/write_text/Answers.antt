@@ -1,0 +1,9 @@
+-- `line_output::write_text` meets its contract: a copy to the part of the output from the place on. Assumes nothing.
+use mathlib.Core.Path.{refl}
+use Rattle.line_output.proofs.Text.{sized, placed}
+use Rattle.line_output.proofs.write_text.Goals as goal
+
+pub returns : goal.returns
+returns c =
+    let a = c.args in
+    placed a.at c.smaller-from.ensures (sized a.out.now c.smaller-from.result refl c.copy_u8.ensures c.smaller.ensures)

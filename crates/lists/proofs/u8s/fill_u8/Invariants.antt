@@ -1,0 +1,10 @@
+-- What the loop keeps.
+use Prim.Native.Nat.{◌-◌}
+use Rattle.lists.proofs.Output.{Repeating}
+use Rattle.lists.proofs.u8s.fill_u8.Given as goal
+
+abbrev pub invariant-loop-i : goal.invariant-loop-i
+invariant-loop-i l = Repeating l.n l.value l.initial.out l.i l.out
+
+abbrev pub decreases-loop-i : goal.decreases-loop-i
+decreases-loop-i l = l.n - l.i

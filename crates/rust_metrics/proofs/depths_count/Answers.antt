@@ -1,0 +1,10 @@
+-- `rust_metrics::depths_count` meets its contract, in each arm. Assumes nothing.
+use mathlib.Core.Path.{sym, ap}
+use Rattle.rust_metrics.specs.Answers.{depths_count}
+use Rattle.rust_metrics.proofs.depths_count.Goals as goal
+
+pub returns-in-Refused : goal.returns-in-Refused
+returns-in-Refused c = sym (ap depths_count c.in-Refused.is)
+
+pub returns-in-Written : goal.returns-in-Written
+returns-in-Written c = sym (ap depths_count c.in-Written.is)

@@ -1,9 +1,0 @@
--- `rust_strand::gedrashiw_max_depth` meets its contract: it hands on the answer. Assumes nothing.
-use Rattle.rust_strand.proofs.gedrashiw_max_depth.Statement.{statement}
-use Rattle.rust_strand.proofs.gedrashiw_max_depth.Tie as tie
-
-returns : tie.Need-returns
-returns c = rw (c.depth-number.ensures, c.before.max-depth.ensures)
-
-pub gedrashiw_max_depth_spec : {M : Type 1} → statement M
-gedrashiw_max_depth_spec = tie.close (tie.spec (λ c κs. tt) (λ c κs. tt) returns)

@@ -1,0 +1,8 @@
+-- `rust_strand::gedrashiw_unconverted_counts` meets its contract: it hands on the answer. Assumes nothing.
+
+use Rattle.rust_strand.proofs.gedrashiw_unconverted_counts.Goals as goal
+
+pub returns : goal.returns
+returns c =
+    let called = c.unconverted_counts.ensures in
+    (rw (c.positions_count.ensures, called.0), called.1)
