@@ -1,6 +1,6 @@
 -- `caller::calculate_error_rate` meets its contract: refused by its number, or the rate of the two sums. Assumes nothing.
 use mathlib.Core.Path.{ap, ◌∙◌}
-use mathlib.Core.List.{◌∷◌}
+use mathlib.Core.List.{◌∷◌, []}
 use Prim.Native.Nat.{◌≤◌}
 use lib.ListN.{length}
 use Rattle.lists.proofs.Output.{answer_refused, answer_passed}
@@ -19,9 +19,9 @@ pub rate_of-requires : goal.rate_of-requires
 unfolding rate_faults
 rate_of-requires c =
     let a = c.args in
-    ((not_ragged (length a.depths.now) (length a.errors.now ∷ []) (passed Ragged _ c.rate_refusal-number.ensures c.if-number-ne0.false).0).0, ((let few_here : Every (λ n. n ≤ 1024) ((let a = c.args in
-    length a.depths.now ∷ length a.errors.now ∷ [])) = not_too_long ((let a = c.args in
-    length a.depths.now ∷ length a.errors.now ∷ [])) (passed TooLong _ c.rate_refusal-number.ensures c.if-number-ne0.false).0 in few_here)).0)
+    ((not_ragged (length a.depths.now) (length a.errors.now ∷ []) (passed Ragged _ c.rate_refusal-number.ensures c.if-number-ne0.false).0).0, (let few_here : Every (λ n. n ≤ 1024) (let a = c.args in
+    length a.depths.now ∷ length a.errors.now ∷ []) = not_too_long (let a = c.args in
+    length a.depths.now ∷ length a.errors.now ∷ []) (passed TooLong _ c.rate_refusal-number.ensures c.if-number-ne0.false).0 in few_here).0)
 
 pub returns : goal.returns
 unfolding error_rate

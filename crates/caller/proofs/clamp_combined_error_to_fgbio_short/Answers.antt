@@ -16,21 +16,21 @@ test p f e = rw (to_z-of_z f) at e
 pub overflow_cast-result : goal.overflow_cast-result
 overflow_cast-result c =
     let z = c.args.error_sum in
-    let f = c.ranges.error-sum in
+    let f = c.ranges.error_sum in
     let not_below = test (λ x. lt_z x (pos 0)) f c.if-error_sum-lt0.false in
     let not_above = test (λ x. lt_z (pos 32767) x) f c.if-error_sum-gt32767.false in
     rw (to_z-of_z f) (not_negative z not_below, record { fits = small z not_below not_above })
 
 pub returns-then-error_sum-lt0 : goal.returns-then-error_sum-lt0
-returns-then-error_sum-lt0 c = below _ (test (λ x. lt_z x (pos 0)) c.ranges.error-sum c.if-error_sum-lt0.true)
+returns-then-error_sum-lt0 c = below _ (test (λ x. lt_z x (pos 0)) c.ranges.error_sum c.if-error_sum-lt0.true)
 
 pub returns-then-error_sum-gt32767 : goal.returns-then-error_sum-gt32767
-returns-then-error_sum-gt32767 c = above _ (test (λ x. lt_z (pos 32767) x) c.ranges.error-sum c.if-error_sum-gt32767.true)
+returns-then-error_sum-gt32767 c = above _ (test (λ x. lt_z (pos 32767) x) c.ranges.error_sum c.if-error_sum-gt32767.true)
 
 pub returns-else-error_sum-gt32767 : goal.returns-else-error_sum-gt32767
 returns-else-error_sum-gt32767 c =
     let z = c.args.error_sum in
-    let f = c.ranges.error-sum in
+    let f = c.ranges.error_sum in
     let not_below = test (λ x. lt_z x (pos 0)) f c.if-error_sum-lt0.false in
     let not_above = test (λ x. lt_z (pos 32767) x) f c.if-error_sum-gt32767.false in
     ap nat_abs (to_z-of_z f) ∙ between z not_below not_above

@@ -1,4 +1,5 @@
 -- What the loop keeps.
+use mathlib.Core.List.{[]}
 use Prim.Native.Nat.{◌-◌}
 use Rattle.lists.proofs.Output.{Filling}
 use Rattle.vanilla_caller.specs.Strand.{arrays}

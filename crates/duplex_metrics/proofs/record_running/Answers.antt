@@ -1,4 +1,5 @@
 -- `duplex_metrics::record_running` meets its contract, whichever way the depths past a strand's end are had. Assumes nothing.
+use mathlib.Core.List.{[]}
 use mathlib.Core.Path.{◌≡◌, sym, ◌∙◌}
 use native.Mathlib.Omega.{arith}
 use lib.ListN.{length}

@@ -1,6 +1,6 @@
 -- `duplex_metrics::strand_metrics` meets its contract: refused by its number, or the strand's figures. Assumes nothing.
 use mathlib.Core.Path.{ap, ◌∙◌}
-use mathlib.Core.List.{◌∷◌}
+use mathlib.Core.List.{[], ◌∷◌}
 use native.Mathlib.Omega.{arith}
 use lib.ListN.{length}
 use Rattle.lists.proofs.Output.{answer_refused, answer_passed}

@@ -1,5 +1,6 @@
 -- `duplex_partition::any_leaves` meets its contract: after i turns it has whether an MI of the first i reads leaves the buffer.
 -- Assumes nothing.
+use mathlib.Core.List.{[]}
 use mathlib.Core.Path.{refl, ◌∙◌}
 use Prim.Native.Nat.{◌-◌}
 use native.Mathlib.Omega.{arith}

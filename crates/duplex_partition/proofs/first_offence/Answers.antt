@@ -1,5 +1,6 @@
 -- `duplex_partition::first_offence` meets its contract: after i turns it has the first offence of the first i reads.
 -- Assumes nothing.
+use mathlib.Core.List.{[]}
 use mathlib.Core.Path.{refl, ◌∙◌}
 use Prim.Native.Nat.{◌-◌}
 use native.Mathlib.Omega.{arith}

@@ -2,7 +2,7 @@
 -- have room. Assumes nothing.
 use mathlib.Core.Path.{◌≡◌}
 use mathlib.Core.Bool.{Bool}
-use mathlib.Core.List.{◌∷◌}
+use mathlib.Core.List.{◌∷◌, []}
 use Prim.Native.Nat.{ℕ, ◌≤◌}
 use borrow.Author.Tests.{ltb-false}
 use Rattle.lists.proofs.Output.{answer_refused, answer_passed, after_refused, after_passed}

@@ -23,14 +23,14 @@ gate_of number a b (Thresholds t) = answer Refused number (verdict (reaches_all 
 pub returns-then-number-ne0 : goal.returns-then-number-ne0
 unfolding validated gate_answer
 returns-then-number-ne0 c = answer_refused Refused _ refl c.if-number-ne0.true ∙ (let x = c.args in
-    let ts = x.min-reads.now in
+    let ts = x.min_reads.now in
     ap (gate_of x.number x.a x.b) (sym c.in-Thresholds.is ∙ c.validate_min_reads.ensures)
     ∙ answer_map (gate_of x.number x.a x.b) Refused-thresholds (refused ts) (Thresholds (min_reads ts)))
 
 pub returns-in-Refused : goal.returns-in-Refused
 unfolding validated gate_answer
 returns-in-Refused c = (let x = c.args in
-    let ts = x.min-reads.now in
+    let ts = x.min_reads.now in
     ap (gate_of x.number x.a x.b) (sym c.in-Refused.is ∙ c.validate_min_reads.ensures)
     ∙ answer_map (gate_of x.number x.a x.b) Refused-thresholds (refused ts) (Thresholds (min_reads ts)))
 
@@ -38,7 +38,7 @@ pub returns-then-reaches : goal.returns-then-reaches
 returns-then-reaches c = ap verdict (sym c.if-reaches.true) ∙ (ap verdict c.reaches.ensures
     ∙ answer_passed Refused _ refl c.if-number-ne0.false
     ∙ (let x = c.args in
-    let ts = x.min-reads.now in
+    let ts = x.min_reads.now in
     ap (gate_of x.number x.a x.b) (sym c.in-Thresholds.is ∙ c.validate_min_reads.ensures)
     ∙ answer_map (gate_of x.number x.a x.b) Refused-thresholds (refused ts) (Thresholds (min_reads ts))))
 
@@ -46,6 +46,6 @@ pub returns-else-reaches : goal.returns-else-reaches
 returns-else-reaches c = ap verdict (sym c.if-reaches.false) ∙ (ap verdict c.reaches.ensures
     ∙ answer_passed Refused _ refl c.if-number-ne0.false
     ∙ (let x = c.args in
-    let ts = x.min-reads.now in
+    let ts = x.min_reads.now in
     ap (gate_of x.number x.a x.b) (sym c.in-Thresholds.is ∙ c.validate_min_reads.ensures)
     ∙ answer_map (gate_of x.number x.a x.b) Refused-thresholds (refused ts) (Thresholds (min_reads ts))))

@@ -1,5 +1,6 @@
 -- `duplex_single::plain_single_strand` meets its contract: refused by its number, or each output written, where it has room.
 -- Assumes nothing.
+use mathlib.Core.List.{[]}
 use mathlib.Core.Path.{◌∙◌}
 use Rattle.lists.specs.Part.{only_if}
 use Rattle.lists.proofs.Output.{answer_refused, answer_passed, put_fitting, put_none}

@@ -20,9 +20,9 @@ use Rattle.duplex_tags.proofs.duplex_methylation_tags.Goals as goal
 
 pub returns-then-number-ne0 : goal.returns-then-number-ne0
 returns-then-number-ne0 c =
-    let e = refused_first c.args.mode c.args.bases.now ((strand c.args.a_annotation c.args.a_marks.now c.args.a_unconverted.now c.args.a_converted.now)) ((strand c.args.b_annotation c.args.b_marks.now c.args.b_unconverted.now c.args.b_converted.now)) ((let a = c.args in
-    text_arrays a.seq-out.now a.a-mm-out.now a.b-mm-out.now a.mm-out.now a.ml-out.now)) ((let a = c.args in
-    count_arrays a.a-unconverted-out.now a.a-converted-out.now a.b-unconverted-out.now a.b-converted-out.now a.unconverted-out.now a.converted-out.now)) c.counts_refusal-number.ensures c.if-number-ne0.true in
+    let e = refused_first c.args.mode c.args.bases.now (strand c.args.a_annotation c.args.a_marks.now c.args.a_unconverted.now c.args.a_converted.now) (strand c.args.b_annotation c.args.b_marks.now c.args.b_unconverted.now c.args.b_converted.now) (let a = c.args in
+    text_arrays a.seq-out.now a.a-mm-out.now a.b-mm-out.now a.mm-out.now a.ml-out.now) (let a = c.args in
+    count_arrays a.a-unconverted-out.now a.a-converted-out.now a.b-unconverted-out.now a.b-converted-out.now a.unconverted-out.now a.converted-out.now) c.counts_refusal-number.ensures c.if-number-ne0.true in
     record {
       answered = answer_refused Refused _ e c.if-number-ne0.true;
       the_texts = texts_refused_is e c.if-number-ne0.true;
@@ -32,70 +32,70 @@ returns-then-number-ne0 c =
 pub returns-then-number-ne0-2 : goal.returns-then-number-ne0-2
 returns-then-number-ne0-2 c =
     let e = (c.number_of-number.ensures
-    ∙ number_is (texts_refused c.args.mode c.args.bases.now ((strand c.args.a_annotation c.args.a_marks.now c.args.a_unconverted.now c.args.a_converted.now)) ((strand c.args.b_annotation c.args.b_marks.now c.args.b_unconverted.now c.args.b_converted.now)) ((let a = c.args in
-    text_arrays a.seq-out.now a.a-mm-out.now a.b-mm-out.now a.mm-out.now a.ml-out.now))) (text_lengths (duplex_texts c.args.mode c.args.bases.now ((strand c.args.a_annotation c.args.a_marks.now c.args.a_unconverted.now c.args.a_converted.now)) ((strand c.args.b_annotation c.args.b_marks.now c.args.b_unconverted.now c.args.b_converted.now)))) c.duplex_texts-texts.ensures.answered
-    ∙ ((passed_first c.args.mode c.args.bases.now ((strand c.args.a_annotation c.args.a_marks.now c.args.a_unconverted.now c.args.a_converted.now)) ((strand c.args.b_annotation c.args.b_marks.now c.args.b_unconverted.now c.args.b_converted.now)) ((let a = c.args in
-    text_arrays a.seq-out.now a.a-mm-out.now a.b-mm-out.now a.mm-out.now a.ml-out.now)) ((let a = c.args in
-    count_arrays a.a-unconverted-out.now a.a-converted-out.now a.b-unconverted-out.now a.b-converted-out.now a.unconverted-out.now a.converted-out.now)) c.counts_refusal-number.ensures c.if-number-ne0.false)).by-texts) in
+    ∙ number_is (texts_refused c.args.mode c.args.bases.now (strand c.args.a_annotation c.args.a_marks.now c.args.a_unconverted.now c.args.a_converted.now) (strand c.args.b_annotation c.args.b_marks.now c.args.b_unconverted.now c.args.b_converted.now) (let a = c.args in
+    text_arrays a.seq-out.now a.a-mm-out.now a.b-mm-out.now a.mm-out.now a.ml-out.now)) (text_lengths (duplex_texts c.args.mode c.args.bases.now (strand c.args.a_annotation c.args.a_marks.now c.args.a_unconverted.now c.args.a_converted.now) (strand c.args.b_annotation c.args.b_marks.now c.args.b_unconverted.now c.args.b_converted.now))) c.duplex_texts-texts.ensures.answered
+    ∙ (passed_first c.args.mode c.args.bases.now (strand c.args.a_annotation c.args.a_marks.now c.args.a_unconverted.now c.args.a_converted.now) (strand c.args.b_annotation c.args.b_marks.now c.args.b_unconverted.now c.args.b_converted.now) (let a = c.args in
+    text_arrays a.seq-out.now a.a-mm-out.now a.b-mm-out.now a.mm-out.now a.ml-out.now) (let a = c.args in
+    count_arrays a.a-unconverted-out.now a.a-converted-out.now a.b-unconverted-out.now a.b-converted-out.now a.unconverted-out.now a.converted-out.now) c.counts_refusal-number.ensures c.if-number-ne0.false).by-texts) in
     record {
       answered = answer_refused Refused _ e c.if-number-ne0-2.true;
       the_texts = (let held_here : let last = c.duplex_texts-texts.new.1.1.1.1.1.1.1.1.1.1 in
-    LeavesTexts ((duplex_refused c.args.mode c.args.bases.now ((strand c.args.a_annotation c.args.a_marks.now c.args.a_unconverted.now c.args.a_converted.now)) ((strand c.args.b_annotation c.args.b_marks.now c.args.b_unconverted.now c.args.b_converted.now)) ((let a = c.args in
-    text_arrays a.seq-out.now a.a-mm-out.now a.b-mm-out.now a.mm-out.now a.ml-out.now)) ((let a = c.args in
-    count_arrays a.a-unconverted-out.now a.a-converted-out.now a.b-unconverted-out.now a.b-converted-out.now a.unconverted-out.now a.converted-out.now)))) (duplex_texts c.args.mode c.args.bases.now ((strand c.args.a_annotation c.args.a_marks.now c.args.a_unconverted.now c.args.a_converted.now)) ((strand c.args.b_annotation c.args.b_marks.now c.args.b_unconverted.now c.args.b_converted.now))) ((let a = c.args in
-    text_arrays a.seq-out.now a.a-mm-out.now a.b-mm-out.now a.mm-out.now a.ml-out.now)) (text_arrays last.0 last.1.0 last.1.1.0 last.1.1.1.0 last.1.1.1.1.0) = rw ((passed_first c.args.mode c.args.bases.now ((strand c.args.a_annotation c.args.a_marks.now c.args.a_unconverted.now c.args.a_converted.now)) ((strand c.args.b_annotation c.args.b_marks.now c.args.b_unconverted.now c.args.b_converted.now)) ((let a = c.args in
-    text_arrays a.seq-out.now a.a-mm-out.now a.b-mm-out.now a.mm-out.now a.ml-out.now)) ((let a = c.args in
-    count_arrays a.a-unconverted-out.now a.a-converted-out.now a.b-unconverted-out.now a.b-converted-out.now a.unconverted-out.now a.converted-out.now)) c.counts_refusal-number.ensures c.if-number-ne0.false)).by-texts at c.duplex_texts-texts.ensures.outputs in held_here);
+    LeavesTexts (duplex_refused c.args.mode c.args.bases.now (strand c.args.a_annotation c.args.a_marks.now c.args.a_unconverted.now c.args.a_converted.now) (strand c.args.b_annotation c.args.b_marks.now c.args.b_unconverted.now c.args.b_converted.now) (let a = c.args in
+    text_arrays a.seq-out.now a.a-mm-out.now a.b-mm-out.now a.mm-out.now a.ml-out.now) (let a = c.args in
+    count_arrays a.a-unconverted-out.now a.a-converted-out.now a.b-unconverted-out.now a.b-converted-out.now a.unconverted-out.now a.converted-out.now)) (duplex_texts c.args.mode c.args.bases.now (strand c.args.a_annotation c.args.a_marks.now c.args.a_unconverted.now c.args.a_converted.now) (strand c.args.b_annotation c.args.b_marks.now c.args.b_unconverted.now c.args.b_converted.now)) (let a = c.args in
+    text_arrays a.seq-out.now a.a-mm-out.now a.b-mm-out.now a.mm-out.now a.ml-out.now) (text_arrays last.0 last.1.0 last.1.1.0 last.1.1.1.0 last.1.1.1.1.0) = rw (passed_first c.args.mode c.args.bases.now (strand c.args.a_annotation c.args.a_marks.now c.args.a_unconverted.now c.args.a_converted.now) (strand c.args.b_annotation c.args.b_marks.now c.args.b_unconverted.now c.args.b_converted.now) (let a = c.args in
+    text_arrays a.seq-out.now a.a-mm-out.now a.b-mm-out.now a.mm-out.now a.ml-out.now) (let a = c.args in
+    count_arrays a.a-unconverted-out.now a.a-converted-out.now a.b-unconverted-out.now a.b-converted-out.now a.unconverted-out.now a.converted-out.now) c.counts_refusal-number.ensures c.if-number-ne0.false).by-texts at c.duplex_texts-texts.ensures.outputs in held_here);
       the_counts = leaves_refused e c.if-number-ne0-2.true;
     }
 
 pub write_counts-requires : goal.write_counts-requires
 write_counts-requires c =
-    let both = (as_long (length c.args.bases.now) ((strand c.args.a_annotation c.args.a_marks.now c.args.a_unconverted.now c.args.a_converted.now)) ((strand c.args.b_annotation c.args.b_marks.now c.args.b_unconverted.now c.args.b_converted.now)) refl ((passed_first c.args.mode c.args.bases.now ((strand c.args.a_annotation c.args.a_marks.now c.args.a_unconverted.now c.args.a_converted.now)) ((strand c.args.b_annotation c.args.b_marks.now c.args.b_unconverted.now c.args.b_converted.now)) ((let a = c.args in
-    text_arrays a.seq-out.now a.a-mm-out.now a.b-mm-out.now a.mm-out.now a.ml-out.now)) ((let a = c.args in
-    count_arrays a.a-unconverted-out.now a.a-converted-out.now a.b-unconverted-out.now a.b-converted-out.now a.unconverted-out.now a.converted-out.now)) c.counts_refusal-number.ensures c.if-number-ne0.false)).given-passed) in
-    let r = ((enough_room ((needed_counts (length c.args.bases.now) c.args.a_annotation c.args.b_annotation)) (kind_lengths ((let a = c.args in
-    count_arrays a.a-unconverted-out.now a.a-converted-out.now a.b-unconverted-out.now a.b-converted-out.now a.unconverted-out.now a.converted-out.now)).unconverted) (kind_lengths ((let a = c.args in
-    count_arrays a.a-unconverted-out.now a.a-converted-out.now a.b-unconverted-out.now a.b-converted-out.now a.unconverted-out.now a.converted-out.now)).converted) ((passed_first c.args.mode c.args.bases.now ((strand c.args.a_annotation c.args.a_marks.now c.args.a_unconverted.now c.args.a_converted.now)) ((strand c.args.b_annotation c.args.b_marks.now c.args.b_unconverted.now c.args.b_converted.now)) ((let a = c.args in
-    text_arrays a.seq-out.now a.a-mm-out.now a.b-mm-out.now a.mm-out.now a.ml-out.now)) ((let a = c.args in
-    count_arrays a.a-unconverted-out.now a.a-converted-out.now a.b-unconverted-out.now a.b-converted-out.now a.unconverted-out.now a.converted-out.now)) c.counts_refusal-number.ensures c.if-number-ne0.false)).room-passed)).0 in
+    let both = (as_long (length c.args.bases.now) (strand c.args.a_annotation c.args.a_marks.now c.args.a_unconverted.now c.args.a_converted.now) (strand c.args.b_annotation c.args.b_marks.now c.args.b_unconverted.now c.args.b_converted.now) refl (passed_first c.args.mode c.args.bases.now (strand c.args.a_annotation c.args.a_marks.now c.args.a_unconverted.now c.args.a_converted.now) (strand c.args.b_annotation c.args.b_marks.now c.args.b_unconverted.now c.args.b_converted.now) (let a = c.args in
+    text_arrays a.seq-out.now a.a-mm-out.now a.b-mm-out.now a.mm-out.now a.ml-out.now) (let a = c.args in
+    count_arrays a.a-unconverted-out.now a.a-converted-out.now a.b-unconverted-out.now a.b-converted-out.now a.unconverted-out.now a.converted-out.now) c.counts_refusal-number.ensures c.if-number-ne0.false).given-passed) in
+    let r = (enough_room (needed_counts (length c.args.bases.now) c.args.a_annotation c.args.b_annotation) (kind_lengths (let a = c.args in
+    count_arrays a.a-unconverted-out.now a.a-converted-out.now a.b-unconverted-out.now a.b-converted-out.now a.unconverted-out.now a.converted-out.now).unconverted) (kind_lengths (let a = c.args in
+    count_arrays a.a-unconverted-out.now a.a-converted-out.now a.b-unconverted-out.now a.b-converted-out.now a.unconverted-out.now a.converted-out.now).converted) (passed_first c.args.mode c.args.bases.now (strand c.args.a_annotation c.args.a_marks.now c.args.a_unconverted.now c.args.a_converted.now) (strand c.args.b_annotation c.args.b_marks.now c.args.b_unconverted.now c.args.b_converted.now) (let a = c.args in
+    text_arrays a.seq-out.now a.a-mm-out.now a.b-mm-out.now a.mm-out.now a.ml-out.now) (let a = c.args in
+    count_arrays a.a-unconverted-out.now a.a-converted-out.now a.b-unconverted-out.now a.b-converted-out.now a.unconverted-out.now a.converted-out.now) c.counts_refusal-number.ensures c.if-number-ne0.false).room-passed).0 in
     (record { few = both.0.few; whole = both.0.unconverted; (let ⟪place Start⟫ = =.before.before.before.before.before.before.before.before.before.before.before.before.before.before.before.before.before.before.before.before in
-    enough_room ((needed_counts (length c.args.bases.now) c.args.a_annotation c.args.b_annotation)) (kind_lengths ((let a = c.args in
-    count_arrays a.a-unconverted-out.now a.a-converted-out.now a.b-unconverted-out.now a.b-converted-out.now a.unconverted-out.now a.converted-out.now)).unconverted) (kind_lengths ((let a = c.args in
-    count_arrays a.a-unconverted-out.now a.a-converted-out.now a.b-unconverted-out.now a.b-converted-out.now a.unconverted-out.now a.converted-out.now)).converted) ((let ⟪place Start⟫ = =.before.before.before.before.before.before.before.before.before.before.before.before.before.before.before.before.before.before.before.before in
-    passed_first c.args.mode c.args.bases.now ((strand c.args.a_annotation c.args.a_marks.now c.args.a_unconverted.now c.args.a_converted.now)) ((strand c.args.b_annotation c.args.b_marks.now c.args.b_unconverted.now c.args.b_converted.now)) ((let a = c.args in
-    text_arrays a.seq-out.now a.a-mm-out.now a.b-mm-out.now a.mm-out.now a.ml-out.now)) ((let a = c.args in
-    count_arrays a.a-unconverted-out.now a.a-converted-out.now a.b-unconverted-out.now a.b-converted-out.now a.unconverted-out.now a.converted-out.now)) =.before.counts-refusal.ensures =.if1.false)).room-passed) r.a }, (record { few = both.1.few; whole = both.1.unconverted; (let ⟪place Start⟫ = =.before.before.before.before.before.before.before.before.before.before.before.before.before.before.before.before.before.before.before.before in
-    enough_room ((needed_counts (length c.args.bases.now) c.args.a_annotation c.args.b_annotation)) (kind_lengths ((let a = c.args in
-    count_arrays a.a-unconverted-out.now a.a-converted-out.now a.b-unconverted-out.now a.b-converted-out.now a.unconverted-out.now a.converted-out.now)).unconverted) (kind_lengths ((let a = c.args in
-    count_arrays a.a-unconverted-out.now a.a-converted-out.now a.b-unconverted-out.now a.b-converted-out.now a.unconverted-out.now a.converted-out.now)).converted) ((let ⟪place Start⟫ = =.before.before.before.before.before.before.before.before.before.before.before.before.before.before.before.before.before.before.before.before in
-    passed_first c.args.mode c.args.bases.now ((strand c.args.a_annotation c.args.a_marks.now c.args.a_unconverted.now c.args.a_converted.now)) ((strand c.args.b_annotation c.args.b_marks.now c.args.b_unconverted.now c.args.b_converted.now)) ((let a = c.args in
-    text_arrays a.seq-out.now a.a-mm-out.now a.b-mm-out.now a.mm-out.now a.ml-out.now)) ((let a = c.args in
-    count_arrays a.a-unconverted-out.now a.a-converted-out.now a.b-unconverted-out.now a.b-converted-out.now a.unconverted-out.now a.converted-out.now)) =.before.counts-refusal.ensures =.if1.false)).room-passed) r.b }, r.both))
+    enough_room (needed_counts (length c.args.bases.now) c.args.a_annotation c.args.b_annotation) (kind_lengths (let a = c.args in
+    count_arrays a.a-unconverted-out.now a.a-converted-out.now a.b-unconverted-out.now a.b-converted-out.now a.unconverted-out.now a.converted-out.now).unconverted) (kind_lengths (let a = c.args in
+    count_arrays a.a-unconverted-out.now a.a-converted-out.now a.b-unconverted-out.now a.b-converted-out.now a.unconverted-out.now a.converted-out.now).converted) (let ⟪place Start⟫ = =.before.before.before.before.before.before.before.before.before.before.before.before.before.before.before.before.before.before.before.before in
+    passed_first c.args.mode c.args.bases.now (strand c.args.a_annotation c.args.a_marks.now c.args.a_unconverted.now c.args.a_converted.now) (strand c.args.b_annotation c.args.b_marks.now c.args.b_unconverted.now c.args.b_converted.now) (let a = c.args in
+    text_arrays a.seq-out.now a.a-mm-out.now a.b-mm-out.now a.mm-out.now a.ml-out.now) (let a = c.args in
+    count_arrays a.a-unconverted-out.now a.a-converted-out.now a.b-unconverted-out.now a.b-converted-out.now a.unconverted-out.now a.converted-out.now) =.before.counts-refusal.ensures =.if1.false).room-passed) r.a }, (record { few = both.1.few; whole = both.1.unconverted; (let ⟪place Start⟫ = =.before.before.before.before.before.before.before.before.before.before.before.before.before.before.before.before.before.before.before.before in
+    enough_room (needed_counts (length c.args.bases.now) c.args.a_annotation c.args.b_annotation) (kind_lengths (let a = c.args in
+    count_arrays a.a-unconverted-out.now a.a-converted-out.now a.b-unconverted-out.now a.b-converted-out.now a.unconverted-out.now a.converted-out.now).unconverted) (kind_lengths (let a = c.args in
+    count_arrays a.a-unconverted-out.now a.a-converted-out.now a.b-unconverted-out.now a.b-converted-out.now a.unconverted-out.now a.converted-out.now).converted) (let ⟪place Start⟫ = =.before.before.before.before.before.before.before.before.before.before.before.before.before.before.before.before.before.before.before.before in
+    passed_first c.args.mode c.args.bases.now (strand c.args.a_annotation c.args.a_marks.now c.args.a_unconverted.now c.args.a_converted.now) (strand c.args.b_annotation c.args.b_marks.now c.args.b_unconverted.now c.args.b_converted.now) (let a = c.args in
+    text_arrays a.seq-out.now a.a-mm-out.now a.b-mm-out.now a.mm-out.now a.ml-out.now) (let a = c.args in
+    count_arrays a.a-unconverted-out.now a.a-converted-out.now a.b-unconverted-out.now a.b-converted-out.now a.unconverted-out.now a.converted-out.now) =.before.counts-refusal.ensures =.if1.false).room-passed) r.b }, r.both))
 
 pub write_counts-requires-2 : goal.write_counts-requires-2
 write_counts-requires-2 c =
-    let both = (as_long (length c.args.bases.now) ((strand c.args.a_annotation c.args.a_marks.now c.args.a_unconverted.now c.args.a_converted.now)) ((strand c.args.b_annotation c.args.b_marks.now c.args.b_unconverted.now c.args.b_converted.now)) refl ((passed_first c.args.mode c.args.bases.now ((strand c.args.a_annotation c.args.a_marks.now c.args.a_unconverted.now c.args.a_converted.now)) ((strand c.args.b_annotation c.args.b_marks.now c.args.b_unconverted.now c.args.b_converted.now)) ((let a = c.args in
-    text_arrays a.seq-out.now a.a-mm-out.now a.b-mm-out.now a.mm-out.now a.ml-out.now)) ((let a = c.args in
-    count_arrays a.a-unconverted-out.now a.a-converted-out.now a.b-unconverted-out.now a.b-converted-out.now a.unconverted-out.now a.converted-out.now)) c.counts_refusal-number.ensures c.if-number-ne0.false)).given-passed) in
-    let r = ((enough_room ((needed_counts (length c.args.bases.now) c.args.a_annotation c.args.b_annotation)) (kind_lengths ((let a = c.args in
-    count_arrays a.a-unconverted-out.now a.a-converted-out.now a.b-unconverted-out.now a.b-converted-out.now a.unconverted-out.now a.converted-out.now)).unconverted) (kind_lengths ((let a = c.args in
-    count_arrays a.a-unconverted-out.now a.a-converted-out.now a.b-unconverted-out.now a.b-converted-out.now a.unconverted-out.now a.converted-out.now)).converted) ((passed_first c.args.mode c.args.bases.now ((strand c.args.a_annotation c.args.a_marks.now c.args.a_unconverted.now c.args.a_converted.now)) ((strand c.args.b_annotation c.args.b_marks.now c.args.b_unconverted.now c.args.b_converted.now)) ((let a = c.args in
-    text_arrays a.seq-out.now a.a-mm-out.now a.b-mm-out.now a.mm-out.now a.ml-out.now)) ((let a = c.args in
-    count_arrays a.a-unconverted-out.now a.a-converted-out.now a.b-unconverted-out.now a.b-converted-out.now a.unconverted-out.now a.converted-out.now)) c.counts_refusal-number.ensures c.if-number-ne0.false)).room-passed)).1 in
+    let both = (as_long (length c.args.bases.now) (strand c.args.a_annotation c.args.a_marks.now c.args.a_unconverted.now c.args.a_converted.now) (strand c.args.b_annotation c.args.b_marks.now c.args.b_unconverted.now c.args.b_converted.now) refl (passed_first c.args.mode c.args.bases.now (strand c.args.a_annotation c.args.a_marks.now c.args.a_unconverted.now c.args.a_converted.now) (strand c.args.b_annotation c.args.b_marks.now c.args.b_unconverted.now c.args.b_converted.now) (let a = c.args in
+    text_arrays a.seq-out.now a.a-mm-out.now a.b-mm-out.now a.mm-out.now a.ml-out.now) (let a = c.args in
+    count_arrays a.a-unconverted-out.now a.a-converted-out.now a.b-unconverted-out.now a.b-converted-out.now a.unconverted-out.now a.converted-out.now) c.counts_refusal-number.ensures c.if-number-ne0.false).given-passed) in
+    let r = (enough_room (needed_counts (length c.args.bases.now) c.args.a_annotation c.args.b_annotation) (kind_lengths (let a = c.args in
+    count_arrays a.a-unconverted-out.now a.a-converted-out.now a.b-unconverted-out.now a.b-converted-out.now a.unconverted-out.now a.converted-out.now).unconverted) (kind_lengths (let a = c.args in
+    count_arrays a.a-unconverted-out.now a.a-converted-out.now a.b-unconverted-out.now a.b-converted-out.now a.unconverted-out.now a.converted-out.now).converted) (passed_first c.args.mode c.args.bases.now (strand c.args.a_annotation c.args.a_marks.now c.args.a_unconverted.now c.args.a_converted.now) (strand c.args.b_annotation c.args.b_marks.now c.args.b_unconverted.now c.args.b_converted.now) (let a = c.args in
+    text_arrays a.seq-out.now a.a-mm-out.now a.b-mm-out.now a.mm-out.now a.ml-out.now) (let a = c.args in
+    count_arrays a.a-unconverted-out.now a.a-converted-out.now a.b-unconverted-out.now a.b-converted-out.now a.unconverted-out.now a.converted-out.now) c.counts_refusal-number.ensures c.if-number-ne0.false).room-passed).1 in
     (record { few = both.0.few; whole = both.0.converted; (let ⟪place Start⟫ = =.before.before.before.before.before.before.before.before.before.before.before.before.before.before.before.before.before.before.before.before in
-    enough_room ((needed_counts (length c.args.bases.now) c.args.a_annotation c.args.b_annotation)) (kind_lengths ((let a = c.args in
-    count_arrays a.a-unconverted-out.now a.a-converted-out.now a.b-unconverted-out.now a.b-converted-out.now a.unconverted-out.now a.converted-out.now)).unconverted) (kind_lengths ((let a = c.args in
-    count_arrays a.a-unconverted-out.now a.a-converted-out.now a.b-unconverted-out.now a.b-converted-out.now a.unconverted-out.now a.converted-out.now)).converted) ((let ⟪place Start⟫ = =.before.before.before.before.before.before.before.before.before.before.before.before.before.before.before.before.before.before.before.before in
-    passed_first c.args.mode c.args.bases.now ((strand c.args.a_annotation c.args.a_marks.now c.args.a_unconverted.now c.args.a_converted.now)) ((strand c.args.b_annotation c.args.b_marks.now c.args.b_unconverted.now c.args.b_converted.now)) ((let a = c.args in
-    text_arrays a.seq-out.now a.a-mm-out.now a.b-mm-out.now a.mm-out.now a.ml-out.now)) ((let a = c.args in
-    count_arrays a.a-unconverted-out.now a.a-converted-out.now a.b-unconverted-out.now a.b-converted-out.now a.unconverted-out.now a.converted-out.now)) =.before.counts-refusal.ensures =.if1.false)).room-passed) r.a }, (record { few = both.1.few; whole = both.1.converted; (let ⟪place Start⟫ = =.before.before.before.before.before.before.before.before.before.before.before.before.before.before.before.before.before.before.before.before in
-    enough_room ((needed_counts (length c.args.bases.now) c.args.a_annotation c.args.b_annotation)) (kind_lengths ((let a = c.args in
-    count_arrays a.a-unconverted-out.now a.a-converted-out.now a.b-unconverted-out.now a.b-converted-out.now a.unconverted-out.now a.converted-out.now)).unconverted) (kind_lengths ((let a = c.args in
-    count_arrays a.a-unconverted-out.now a.a-converted-out.now a.b-unconverted-out.now a.b-converted-out.now a.unconverted-out.now a.converted-out.now)).converted) ((let ⟪place Start⟫ = =.before.before.before.before.before.before.before.before.before.before.before.before.before.before.before.before.before.before.before.before in
-    passed_first c.args.mode c.args.bases.now ((strand c.args.a_annotation c.args.a_marks.now c.args.a_unconverted.now c.args.a_converted.now)) ((strand c.args.b_annotation c.args.b_marks.now c.args.b_unconverted.now c.args.b_converted.now)) ((let a = c.args in
-    text_arrays a.seq-out.now a.a-mm-out.now a.b-mm-out.now a.mm-out.now a.ml-out.now)) ((let a = c.args in
-    count_arrays a.a-unconverted-out.now a.a-converted-out.now a.b-unconverted-out.now a.b-converted-out.now a.unconverted-out.now a.converted-out.now)) =.before.counts-refusal.ensures =.if1.false)).room-passed) r.b }, r.both))
+    enough_room (needed_counts (length c.args.bases.now) c.args.a_annotation c.args.b_annotation) (kind_lengths (let a = c.args in
+    count_arrays a.a-unconverted-out.now a.a-converted-out.now a.b-unconverted-out.now a.b-converted-out.now a.unconverted-out.now a.converted-out.now).unconverted) (kind_lengths (let a = c.args in
+    count_arrays a.a-unconverted-out.now a.a-converted-out.now a.b-unconverted-out.now a.b-converted-out.now a.unconverted-out.now a.converted-out.now).converted) (let ⟪place Start⟫ = =.before.before.before.before.before.before.before.before.before.before.before.before.before.before.before.before.before.before.before.before in
+    passed_first c.args.mode c.args.bases.now (strand c.args.a_annotation c.args.a_marks.now c.args.a_unconverted.now c.args.a_converted.now) (strand c.args.b_annotation c.args.b_marks.now c.args.b_unconverted.now c.args.b_converted.now) (let a = c.args in
+    text_arrays a.seq-out.now a.a-mm-out.now a.b-mm-out.now a.mm-out.now a.ml-out.now) (let a = c.args in
+    count_arrays a.a-unconverted-out.now a.a-converted-out.now a.b-unconverted-out.now a.b-converted-out.now a.unconverted-out.now a.converted-out.now) =.before.counts-refusal.ensures =.if1.false).room-passed) r.a }, (record { few = both.1.few; whole = both.1.converted; (let ⟪place Start⟫ = =.before.before.before.before.before.before.before.before.before.before.before.before.before.before.before.before.before.before.before.before in
+    enough_room (needed_counts (length c.args.bases.now) c.args.a_annotation c.args.b_annotation) (kind_lengths (let a = c.args in
+    count_arrays a.a-unconverted-out.now a.a-converted-out.now a.b-unconverted-out.now a.b-converted-out.now a.unconverted-out.now a.converted-out.now).unconverted) (kind_lengths (let a = c.args in
+    count_arrays a.a-unconverted-out.now a.a-converted-out.now a.b-unconverted-out.now a.b-converted-out.now a.unconverted-out.now a.converted-out.now).converted) (let ⟪place Start⟫ = =.before.before.before.before.before.before.before.before.before.before.before.before.before.before.before.before.before.before.before.before in
+    passed_first c.args.mode c.args.bases.now (strand c.args.a_annotation c.args.a_marks.now c.args.a_unconverted.now c.args.a_converted.now) (strand c.args.b_annotation c.args.b_marks.now c.args.b_unconverted.now c.args.b_converted.now) (let a = c.args in
+    text_arrays a.seq-out.now a.a-mm-out.now a.b-mm-out.now a.mm-out.now a.ml-out.now) (let a = c.args in
+    count_arrays a.a-unconverted-out.now a.a-converted-out.now a.b-unconverted-out.now a.b-converted-out.now a.unconverted-out.now a.converted-out.now) =.before.counts-refusal.ensures =.if1.false).room-passed) r.b }, r.both))
 
 pub returns : goal.returns
 returns c =
@@ -103,26 +103,26 @@ returns c =
     let converted = c.write_counts-2.ensures in
     let zero = c.if-number-ne0-2.false in
     record {
-      answered = c.tags_of.ensures ∙ (let lengths = text_lengths (duplex_texts c.args.mode c.args.bases.now ((strand c.args.a_annotation c.args.a_marks.now c.args.a_unconverted.now c.args.a_converted.now)) ((strand c.args.b_annotation c.args.b_marks.now c.args.b_unconverted.now c.args.b_converted.now))) in
+      answered = c.tags_of.ensures ∙ (let lengths = text_lengths (duplex_texts c.args.mode c.args.bases.now (strand c.args.a_annotation c.args.a_marks.now c.args.a_unconverted.now c.args.a_converted.now) (strand c.args.b_annotation c.args.b_marks.now c.args.b_unconverted.now c.args.b_converted.now)) in
     ap tags_of c.duplex_texts-texts.ensures.answered
-    ∙ answer_map tags_of Refused-texts (texts_refused c.args.mode c.args.bases.now ((strand c.args.a_annotation c.args.a_marks.now c.args.a_unconverted.now c.args.a_converted.now)) ((strand c.args.b_annotation c.args.b_marks.now c.args.b_unconverted.now c.args.b_converted.now)) ((let a = c.args in
-    text_arrays a.seq-out.now a.a-mm-out.now a.b-mm-out.now a.mm-out.now a.ml-out.now))) (written lengths)
-    ∙ ap (λ (n : ℕ). answer Refused n (tagged lengths)) ((passed_first c.args.mode c.args.bases.now ((strand c.args.a_annotation c.args.a_marks.now c.args.a_unconverted.now c.args.a_converted.now)) ((strand c.args.b_annotation c.args.b_marks.now c.args.b_unconverted.now c.args.b_converted.now)) ((let a = c.args in
-    text_arrays a.seq-out.now a.a-mm-out.now a.b-mm-out.now a.mm-out.now a.ml-out.now)) ((let a = c.args in
-    count_arrays a.a-unconverted-out.now a.a-converted-out.now a.b-unconverted-out.now a.b-converted-out.now a.unconverted-out.now a.converted-out.now)) c.counts_refusal-number.ensures c.if-number-ne0.false)).by-texts);
+    ∙ answer_map tags_of Refused-texts (texts_refused c.args.mode c.args.bases.now (strand c.args.a_annotation c.args.a_marks.now c.args.a_unconverted.now c.args.a_converted.now) (strand c.args.b_annotation c.args.b_marks.now c.args.b_unconverted.now c.args.b_converted.now) (let a = c.args in
+    text_arrays a.seq-out.now a.a-mm-out.now a.b-mm-out.now a.mm-out.now a.ml-out.now)) (written lengths)
+    ∙ ap (λ (n : ℕ). answer Refused n (tagged lengths)) (passed_first c.args.mode c.args.bases.now (strand c.args.a_annotation c.args.a_marks.now c.args.a_unconverted.now c.args.a_converted.now) (strand c.args.b_annotation c.args.b_marks.now c.args.b_unconverted.now c.args.b_converted.now) (let a = c.args in
+    text_arrays a.seq-out.now a.a-mm-out.now a.b-mm-out.now a.mm-out.now a.ml-out.now) (let a = c.args in
+    count_arrays a.a-unconverted-out.now a.a-converted-out.now a.b-unconverted-out.now a.b-converted-out.now a.unconverted-out.now a.converted-out.now) c.counts_refusal-number.ensures c.if-number-ne0.false).by-texts);
       the_texts = (let held_here : let last = c.duplex_texts-texts.new.1.1.1.1.1.1.1.1.1.1 in
-    LeavesTexts ((duplex_refused c.args.mode c.args.bases.now ((strand c.args.a_annotation c.args.a_marks.now c.args.a_unconverted.now c.args.a_converted.now)) ((strand c.args.b_annotation c.args.b_marks.now c.args.b_unconverted.now c.args.b_converted.now)) ((let a = c.args in
-    text_arrays a.seq-out.now a.a-mm-out.now a.b-mm-out.now a.mm-out.now a.ml-out.now)) ((let a = c.args in
-    count_arrays a.a-unconverted-out.now a.a-converted-out.now a.b-unconverted-out.now a.b-converted-out.now a.unconverted-out.now a.converted-out.now)))) (duplex_texts c.args.mode c.args.bases.now ((strand c.args.a_annotation c.args.a_marks.now c.args.a_unconverted.now c.args.a_converted.now)) ((strand c.args.b_annotation c.args.b_marks.now c.args.b_unconverted.now c.args.b_converted.now))) ((let a = c.args in
-    text_arrays a.seq-out.now a.a-mm-out.now a.b-mm-out.now a.mm-out.now a.ml-out.now)) (text_arrays last.0 last.1.0 last.1.1.0 last.1.1.1.0 last.1.1.1.1.0) = rw ((passed_first c.args.mode c.args.bases.now ((strand c.args.a_annotation c.args.a_marks.now c.args.a_unconverted.now c.args.a_converted.now)) ((strand c.args.b_annotation c.args.b_marks.now c.args.b_unconverted.now c.args.b_converted.now)) ((let a = c.args in
-    text_arrays a.seq-out.now a.a-mm-out.now a.b-mm-out.now a.mm-out.now a.ml-out.now)) ((let a = c.args in
-    count_arrays a.a-unconverted-out.now a.a-converted-out.now a.b-unconverted-out.now a.b-converted-out.now a.unconverted-out.now a.converted-out.now)) c.counts_refusal-number.ensures c.if-number-ne0.false)).by-texts at c.duplex_texts-texts.ensures.outputs in held_here);
-      the_counts = leaves_passed ((c.number_of-number.ensures
-    ∙ number_is (texts_refused c.args.mode c.args.bases.now ((strand c.args.a_annotation c.args.a_marks.now c.args.a_unconverted.now c.args.a_converted.now)) ((strand c.args.b_annotation c.args.b_marks.now c.args.b_unconverted.now c.args.b_converted.now)) ((let a = c.args in
-    text_arrays a.seq-out.now a.a-mm-out.now a.b-mm-out.now a.mm-out.now a.ml-out.now))) (text_lengths (duplex_texts c.args.mode c.args.bases.now ((strand c.args.a_annotation c.args.a_marks.now c.args.a_unconverted.now c.args.a_converted.now)) ((strand c.args.b_annotation c.args.b_marks.now c.args.b_unconverted.now c.args.b_converted.now)))) c.duplex_texts-texts.ensures.answered
-    ∙ ((passed_first c.args.mode c.args.bases.now ((strand c.args.a_annotation c.args.a_marks.now c.args.a_unconverted.now c.args.a_converted.now)) ((strand c.args.b_annotation c.args.b_marks.now c.args.b_unconverted.now c.args.b_converted.now)) ((let a = c.args in
-    text_arrays a.seq-out.now a.a-mm-out.now a.b-mm-out.now a.mm-out.now a.ml-out.now)) ((let a = c.args in
-    count_arrays a.a-unconverted-out.now a.a-converted-out.now a.b-unconverted-out.now a.b-converted-out.now a.unconverted-out.now a.converted-out.now)) c.counts_refusal-number.ensures c.if-number-ne0.false)).by-texts)) zero (record { unconverted = unconverted; converted = converted });
+    LeavesTexts (duplex_refused c.args.mode c.args.bases.now (strand c.args.a_annotation c.args.a_marks.now c.args.a_unconverted.now c.args.a_converted.now) (strand c.args.b_annotation c.args.b_marks.now c.args.b_unconverted.now c.args.b_converted.now) (let a = c.args in
+    text_arrays a.seq-out.now a.a-mm-out.now a.b-mm-out.now a.mm-out.now a.ml-out.now) (let a = c.args in
+    count_arrays a.a-unconverted-out.now a.a-converted-out.now a.b-unconverted-out.now a.b-converted-out.now a.unconverted-out.now a.converted-out.now)) (duplex_texts c.args.mode c.args.bases.now (strand c.args.a_annotation c.args.a_marks.now c.args.a_unconverted.now c.args.a_converted.now) (strand c.args.b_annotation c.args.b_marks.now c.args.b_unconverted.now c.args.b_converted.now)) (let a = c.args in
+    text_arrays a.seq-out.now a.a-mm-out.now a.b-mm-out.now a.mm-out.now a.ml-out.now) (text_arrays last.0 last.1.0 last.1.1.0 last.1.1.1.0 last.1.1.1.1.0) = rw (passed_first c.args.mode c.args.bases.now (strand c.args.a_annotation c.args.a_marks.now c.args.a_unconverted.now c.args.a_converted.now) (strand c.args.b_annotation c.args.b_marks.now c.args.b_unconverted.now c.args.b_converted.now) (let a = c.args in
+    text_arrays a.seq-out.now a.a-mm-out.now a.b-mm-out.now a.mm-out.now a.ml-out.now) (let a = c.args in
+    count_arrays a.a-unconverted-out.now a.a-converted-out.now a.b-unconverted-out.now a.b-converted-out.now a.unconverted-out.now a.converted-out.now) c.counts_refusal-number.ensures c.if-number-ne0.false).by-texts at c.duplex_texts-texts.ensures.outputs in held_here);
+      the_counts = leaves_passed (c.number_of-number.ensures
+    ∙ number_is (texts_refused c.args.mode c.args.bases.now (strand c.args.a_annotation c.args.a_marks.now c.args.a_unconverted.now c.args.a_converted.now) (strand c.args.b_annotation c.args.b_marks.now c.args.b_unconverted.now c.args.b_converted.now) (let a = c.args in
+    text_arrays a.seq-out.now a.a-mm-out.now a.b-mm-out.now a.mm-out.now a.ml-out.now)) (text_lengths (duplex_texts c.args.mode c.args.bases.now (strand c.args.a_annotation c.args.a_marks.now c.args.a_unconverted.now c.args.a_converted.now) (strand c.args.b_annotation c.args.b_marks.now c.args.b_unconverted.now c.args.b_converted.now))) c.duplex_texts-texts.ensures.answered
+    ∙ (passed_first c.args.mode c.args.bases.now (strand c.args.a_annotation c.args.a_marks.now c.args.a_unconverted.now c.args.a_converted.now) (strand c.args.b_annotation c.args.b_marks.now c.args.b_unconverted.now c.args.b_converted.now) (let a = c.args in
+    text_arrays a.seq-out.now a.a-mm-out.now a.b-mm-out.now a.mm-out.now a.ml-out.now) (let a = c.args in
+    count_arrays a.a-unconverted-out.now a.a-converted-out.now a.b-unconverted-out.now a.b-converted-out.now a.unconverted-out.now a.converted-out.now) c.counts_refusal-number.ensures c.if-number-ne0.false).by-texts) zero (record { unconverted = unconverted; converted = converted });
     }
 
 pub shape_of-seq_out-then-number-ne0-2 : goal.shape_of-seq_out-then-number-ne0-2

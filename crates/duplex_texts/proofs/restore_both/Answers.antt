@@ -22,6 +22,6 @@ returns c =
     let xs = strand_bases a.a_annotation a.a-marks.now a.bases.now in
     let long = first_length a.a_annotation a.a-marks.now a.bases.now in
     let marks = c.requires.1.1 (ap is_annotated c.in-Of.is) in
-    part_restored c.in-Of.pattern a.b-marks.now xs a.seq.now ((let a = c.args in
-    written _ _ c.methylation_strand_bases.ensures.1 (bases_fit a.a_annotation a.bases.now a.a-marks.now a.seq.now c.requires.0.0 c.requires.1.0 c.requires.0.1))) (sym long) (omega arith) (omega arith) c.restore_unconverted_bases.ensures.1
+    part_restored c.in-Of.pattern a.b-marks.now xs a.seq.now (let a = c.args in
+    written _ _ c.methylation_strand_bases.ensures.1 (bases_fit a.a_annotation a.bases.now a.a-marks.now a.seq.now c.requires.0.0 c.requires.1.0 c.requires.0.1)) (sym long) (omega arith) (omega arith) c.restore_unconverted_bases.ensures.1
     ∙ put_equal _ (strand_of_lem _ _ c.in-Of.is)

@@ -19,7 +19,7 @@ past_6 p h a b c = omega arith
 pub returns-in_default : goal.returns-in_default
 returns-in_default c =
     let p = c.args.place in
-    let n = c.in_default.rest in
+    let n = c.in_default.in_default-own.rest in
     let past : 7 ≤ p = past_6 p (past_3 p n.0.0.0.0.0.0.1 n.0.0.0.0.0.1 n.0.0.0.0.1 n.0.0.0.1) n.0.0.1 n.0.1 n.1 in
     at_place 7 (same p past c.requires) (omega arith)
   where

@@ -13,7 +13,7 @@ returns-in_default c = (c.copy_u8.ensures ∙ put_fitting _ _ c.requires.0) ∙ 
 pub restore-requires : goal.restore-requires
 restore-requires c =
     let as_many = c.requires.1 (ap is_annotated c.in-Of.is) in
-    omega (arith, ap length ((c.copy_u8.ensures ∙ put_fitting _ _ c.requires.0)), length_put c.args.bases.now c.args.out.now c.requires.0)
+    omega (arith, ap length (c.copy_u8.ensures ∙ put_fitting _ _ c.requires.0), length_put c.args.bases.now c.args.out.now c.requires.0)
 
 pub returns : goal.returns
 returns c =

@@ -1,4 +1,5 @@
 -- `mm_ml::tag_lengths` meets its contract: nothing in mode Disabled or where nothing is called, else the group's text. Assumes nothing.
+use mathlib.Core.List.{[]}
 use mathlib.Core.Path.{◌≡◌, sym, ap, ◌∙◌}
 use mathlib.Core.Bool.{true, false}
 use native.Mathlib.Omega.{arith}

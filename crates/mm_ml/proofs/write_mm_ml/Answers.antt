@@ -97,8 +97,8 @@ returns c =
 
 pub shape_of-mm : goal.shape_of-mm
 shape_of-mm c =
-    ap length (returns c).0 ∙ length_put (all_text ((let a = c.args in
-    annotated a.bases.now a.pattern a.marks.now a.unconverted.now a.converted.now))) c.args.mm.now c.requires.1.0
+    ap length (returns c).0 ∙ length_put (all_text (let a = c.args in
+    annotated a.bases.now a.pattern a.marks.now a.unconverted.now a.converted.now)) c.args.mm.now c.requires.1.0
 
 pub shape_of-ml : goal.shape_of-ml
 shape_of-ml c = same_scoring _ _ c.loop-i.invariant.1

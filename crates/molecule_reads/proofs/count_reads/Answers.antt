@@ -25,7 +25,7 @@ loop-next-smaller c =
     omega (arith, r.further, r.within)
 
 pub loop-next-preserved : goal.loop-next-preserved
-loop-next-preserved c = one_more c.loop-next.invariant ((run_next _ _ (sym c.next_read.ensures ∙ c.in-Read.is)))
+loop-next-preserved c = one_more c.loop-next.invariant (run_next _ _ (sym c.next_read.ensures ∙ c.in-Read.is))
 
 pub loop-next-init : goal.loop-next-init
 loop-next-init c = begin

@@ -28,7 +28,7 @@ loop-read-smaller c =
 
 pub loop-read-preserved : goal.loop-read-preserved
 loop-read-preserved c =
-    one_more c.loop-read.invariant ((run_next _ _ (sym c.next_read.ensures ∙ c.in-Read.is))) c.add_read_errors.ensures
+    one_more c.loop-read.invariant (run_next _ _ (sym c.next_read.ensures ∙ c.in-Read.is)) c.add_read_errors.ensures
 
 pub loop-read-init : goal.loop-read-init
 loop-read-init c = begin

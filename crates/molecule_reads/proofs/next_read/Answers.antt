@@ -30,7 +30,7 @@ module _ (run : List ℕ) (at : ℕ) (f : FieldAt) (e : next_field run at ≡ Wh
 
 pub returns-then-is_read : goal.returns-then-is_read
 returns-then-is_read c =
-    read_is _ _ _ ((sym c.next_field.ensures ∙ c.in-Whole.is)) _ ((sym c.is_read.ensures ∙ c.if-is_read.true)) c.read_flags-flags.ensures
+    read_is _ _ _ (sym c.next_field.ensures ∙ c.in-Whole.is) _ (sym c.is_read.ensures ∙ c.if-is_read.true) c.read_flags-flags.ensures
 
 pub returns-in-End : goal.returns-in-End
 unfolding next_read
@@ -41,8 +41,8 @@ unfolding next_read
 returns-in-Cut c = rw (sym c.next_field.ensures ∙ c.in-Cut.is)
 
 pub returns-else-is_read : goal.returns-else-is_read
-returns-else-is_read c = no_read _ _ _ ((sym c.next_field.ensures ∙ c.in-Whole.is)) (sym c.is_read.ensures ∙ c.if-is_read.false)
+returns-else-is_read c = no_read _ _ _ (sym c.next_field.ensures ∙ c.in-Whole.is) (sym c.is_read.ensures ∙ c.if-is_read.false)
 
 pub overflow_sub-read : goal.overflow_sub-read
 overflow_sub-read c = (let f = c.in-Whole.f in
-    leb-true 2 f.length (both_hold (eqb f.tag 0x30) (leb 2 f.length) ((sym c.is_read.ensures ∙ c.if-is_read.true))).1)
+    leb-true 2 f.length (both_hold (eqb f.tag 0x30) (leb 2 f.length) (sym c.is_read.ensures ∙ c.if-is_read.true)).1)
