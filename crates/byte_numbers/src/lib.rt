@@ -1,5 +1,7 @@
 // Numbers as bytes, low byte first, in the widths in use: read from bytes, and written as bytes to a lent output, as many whole
 // numbers as there is room for. Its specs also have groups of one width, for what is made of several numbers. Uses lists.
+#![tactic(auto)]
+
 ghost use Rattle.std.specs.Prelude.{◌≡◌, [], ◌∷◌, ◌+◌, ◌/◌, ◌≤◌, length, take};
 ghost use Rattle.std.proofs.lemmas.List.Edits.{sets};
 ghost use Rattle.lists.specs.Output.{put};

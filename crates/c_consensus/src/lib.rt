@@ -1,5 +1,7 @@
 // The duplex record of strands given as bytes, written as bytes: what the entry point for C does. The record is molecule_consensus's, the
 // outputs are c_record's. Uses methylation, duplex_kind, molecule_consensus and c_record.
+#![tactic(auto)]
+
 ghost use Rattle.molecule_strand.specs.Strand.{strand_bytes};
 ghost use Rattle.molecule_consensus.specs.Bytes.{seen};
 ghost use Rattle.c_record.specs.Outputs.{record_bytes};

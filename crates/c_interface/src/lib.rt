@@ -1,6 +1,8 @@
 // Entry points for C programs: numbers and byte slices, and answers as numbers. An array of wider numbers is passed as its bytes,
 // low byte first. This crate owns the numbers for what is there and for a pattern; the calls are c_metrics's and c_consensus's. Uses
 // refusals, molecule_strand, duplex_kind, duplex_reply, c_metrics and c_consensus.
+#![tactic(auto)]
+
 ghost use Rattle.std.specs.Prelude.{◌||◌};
 ghost use Rattle.replies.specs.Choices.{yes};
 ghost use Rattle.duplex_metrics.specs.Metrics.{input};

@@ -1,6 +1,8 @@
 // The metrics of a record from bytes to bytes: an array of wider numbers is its bytes, low byte first. It owns row 13 for them, and
 // the layout of the record; that of the bytes is byte_numbers's, what a call answers metrics_bits's.
 // Uses lists, refusals, byte_numbers, duplex_metrics and metrics_bits.
+#![tactic(auto)]
+
 ghost use Rattle.std.specs.Prelude.{◌≡◌, false, ◌≤◌, length};
 ghost use Rattle.lists.specs.Output.{put};
 ghost use Rattle.byte_numbers.specs.Bytes.{odd_count, bytes32};

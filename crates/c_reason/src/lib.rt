@@ -3,6 +3,8 @@
 // crate owns what of the bytes a position needs. Row 13, and what of a strand is looked at, are stated by the definitions of
 // molecule_consensus and c_interface, as those of `gedrashiw_duplex_consensus`. Uses lists, methylation, vanilla_caller, byte_numbers,
 // molecule_evidence, molecule_strand, duplex_kind, duplex_reason and rust_reason.
+#![tactic(auto)]
+
 ghost use Rattle.std.specs.Prelude.{◌≡◌, false, cond, ◌&&◌, ◌||◌, ◌/◌, ◌≤◌, length, get_or};
 ghost use Rattle.lists.specs.Part.{only_if};
 ghost use Rattle.methylation.specs.Methylation.{is_annotated};

@@ -1,5 +1,7 @@
 // A duplex record as bytes: its arrays, written to lent outputs of bytes as far as the record goes. It owns the layout of those
 // outputs and row 12 for them. Uses lists, refusals, methylation, byte_numbers, molecule_evidence, duplex_outputs and duplex_kind.
+#![tactic(auto)]
+
 ghost use Rattle.std.specs.Prelude.{◌≡◌, ◌/◌, length, take};
 ghost use Rattle.lists.specs.Output.{put};
 ghost use Rattle.methylation.specs.Arrays.{evidence_places};

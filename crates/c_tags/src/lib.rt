@@ -2,6 +2,8 @@
 // bytes, low byte first. The tags are duplex_texts's and duplex_tags's; this crate owns row 13 for them, and their evidence and counts
 // as bytes. Uses lists, refusals, methylation, replies, byte_numbers, molecule_evidence, molecule_strand, methylation_evidence,
 // duplex_texts, duplex_tags and rust_methylation.
+#![tactic(auto)]
+
 ghost use Rattle.std.specs.Prelude.{◌≡◌, ◌/◌, ◌≤◌, length};
 ghost use Rattle.lists.specs.Output.{put};
 ghost use Rattle.byte_numbers.specs.Bytes.{bytes16};

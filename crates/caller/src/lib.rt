@@ -1,5 +1,7 @@
 // What every consensus caller shares, from caller.rs: the clamps of depths and errors to fgbio's Short, the read name, and the
 // error rate of a strand. Uses lists, refusals, numbers and rates.
+#![tactic(auto)]
+
 ghost use Rattle.std.specs.Prelude.{◌≡◌, ◌≤◌, ◌+◌, length};
 ghost use Rattle.lists.specs.Output.{put, answer, after};
 ghost use Rattle.numbers.specs.Numbers.{total};

@@ -1,4 +1,6 @@
 // Numbers as decimal text, most significant digit first and without leading zeros. Uses lists (its laws only).
+#![tactic(auto)]
+
 ghost use Rattle.std.specs.Prelude.{◌≡◌, ◌+◌, ◌<◌, length, take, set};
 ghost use Rattle.lists.specs.Output.{put};
 ghost use Rattle.decimal.specs.Decimal.{decimal, digit};

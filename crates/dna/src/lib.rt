@@ -1,4 +1,6 @@
 // Bases as bytes: the letters and their case (fgumi_dna). Uses nothing.
+#![tactic(auto)]
+
 ghost use Rattle.std.specs.Prelude.{◌≡◌};
 ghost use Rattle.dna.specs.Dna.{upper, same_letter};
 

@@ -1,5 +1,7 @@
 // Two strands that may be annotated, combined position by position, from duplex_caller.rs (combine_strands). Uses methylation,
 // vanilla_caller, duplex_molecule, duplex_arrays, duplex_evidence, duplex_outputs and duplex_strands.
+#![tactic(auto)]
+
 ghost use Rattle.vanilla_caller.specs.Strand.{arrays};
 ghost use Rattle.duplex_molecule.specs.Molecule.{ct_input};
 ghost use Rattle.duplex_outputs.specs.Outputs.{record_of};

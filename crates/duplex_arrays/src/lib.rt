@@ -1,5 +1,7 @@
 // The arrays of a two-strand record, position by position, from duplex_caller.rs (combine_strands): bases and qualities, and
 // errors without source reads. Uses lists, refusals, vanilla_caller, duplex_molecule, duplex_position and duplex_call.
+#![tactic(auto)]
+
 ghost use Rattle.std.specs.Prelude.{◌≡◌, false, [], ◌∷◌, ◌≤◌, length};
 ghost use Rattle.lists.specs.Output.{put};
 ghost use Rattle.vanilla_caller.specs.Strand.{arrays};

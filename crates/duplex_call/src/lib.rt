@@ -1,5 +1,7 @@
 // One position of two strands that may be annotated, from duplex_caller.rs (combine_strands): base and quality, the estimate of
 // errors, and what a source read should show. Uses dna, methylation, duplex_molecule, duplex_position and duplex_errors.
+#![tactic(auto)]
+
 ghost use Rattle.std.specs.Prelude.{◌≡◌, cond};
 ghost use Rattle.duplex_call.specs.Annotated.{combined, estimated_uncalled, estimated, expected};
 ghost use Rattle.duplex_call.specs.Tests.{is_b, of_pattern, at_call};

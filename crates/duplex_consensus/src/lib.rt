@@ -1,6 +1,8 @@
 // The duplex record with its source reads, from duplex_caller.rs (duplex_consensus), as an entry point over numbers: the record, and
 // where there is a list the errors that are counted of its reads. Uses methylation, replies, duplex_molecule, duplex_kind, duplex_reply,
 // duplex_record and source_reads.
+#![tactic(auto)]
+
 ghost use Rattle.std.specs.Prelude.{◌≡◌, cond, not, ◌&&◌, ◌||◌};
 ghost use Rattle.replies.specs.Choices.{yes, annotation_of};
 ghost use Rattle.vanilla_caller.specs.Strand.{arrays};

@@ -1,5 +1,7 @@
 // The depths of a duplex record, from duplex_caller.rs: both strands' depths at each position, and their range. A record is given
 // by how many positions it has and by its strands' depths; an absent strand has none. Uses lists, refusals and numbers.
+#![tactic(auto)]
+
 ghost use Rattle.std.specs.Prelude.{◌≡◌, ◌≤◌, length};
 ghost use Rattle.lists.specs.Output.{answer, put, after};
 ghost use Rattle.numbers.specs.Numbers.{largest, smallest};

@@ -1,5 +1,7 @@
 // The errors of a two-strand record at one position, from duplex_caller.rs (combine_strands): the estimate where no source reads
 // are kept. Uses caller.
+#![tactic(auto)]
+
 ghost use Rattle.std.specs.Prelude.{◌≡◌};
 ghost use Rattle.duplex_errors.specs.Errors.{agreeing, disagreeing};
 

@@ -1,5 +1,7 @@
 // The evidence of a strand in a two-strand record, position by position, from duplex_caller.rs (combine_strands). Uses lists,
 // refusals, methylation, vanilla_caller, duplex_molecule, duplex_call and duplex_arrays.
+#![tactic(auto)]
+
 ghost use Rattle.std.specs.Prelude.{◌≡◌, false, [], ◌∷◌, ◌≤◌, length};
 ghost use Rattle.lists.specs.Output.{put};
 ghost use Rattle.lists.specs.Table.{tabulate};

@@ -1,5 +1,7 @@
 // The consensus gate, from duplex_caller.rs: whether a record's strands were covered deeply enough. Uses lists, refusals, numbers,
 // duplex_min_reads and duplex_reads.
+#![tactic(auto)]
+
 ghost use Rattle.std.specs.Prelude.{◌≡◌};
 ghost use Rattle.duplex_gate.specs.ConsensusGate.{largest_within, consensus_gate};
 

@@ -1,5 +1,7 @@
 // Which record two strands make, from duplex_caller.rs (duplex_consensus): what refuses them, which of them count, and the record's
 // length. Uses lists, refusals, methylation and vanilla_caller.
+#![tactic(auto)]
+
 ghost use Rattle.std.specs.Prelude.{◌≡◌};
 ghost use Rattle.refusals.specs.Refusal.{refusal};
 ghost use Rattle.duplex_kind.specs.Kind.{shorter_present, counts, kind_by, long, uneven, given_faults, kind_given};

@@ -1,5 +1,7 @@
 // The metrics of a duplex record, from duplex_caller.rs (duplex_read_into). Depths and errors are capped at each position before
 // anything else. Uses lists, refusals, numbers, dna, rates and caller.
+#![tactic(auto)]
+
 ghost use Rattle.std.specs.Prelude.{◌≡◌, ◌≤◌, ◌<◌, true, cond, [], length, get_or};
 ghost use Rattle.lists.specs.Part.{only_if};
 ghost use Rattle.caller.specs.Short.{short};

@@ -1,4 +1,6 @@
 // The thresholds of read counts, from duplex_caller.rs. Uses lists, refusals and numbers.
+#![tactic(auto)]
+
 ghost use Rattle.std.specs.Prelude.{◌≡◌};
 ghost use Rattle.duplex_min_reads.specs.MinReads.{validated, min_yx_reads, single_strand, reaches_all};
 

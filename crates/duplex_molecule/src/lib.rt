@@ -1,5 +1,7 @@
 // One position of a two-strand molecule, from duplex_caller.rs: the error test and the methylation call. Uses dna and
 // methylation.
+#![tactic(auto)]
+
 ghost use Rattle.std.specs.Prelude.{◌≡◌};
 ghost use Rattle.duplex_molecule.specs.Molecule.{is_error, molecule_call, ct_input, can_call};
 

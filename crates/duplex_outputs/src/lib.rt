@@ -1,5 +1,7 @@
 // The outputs that a duplex record is written to: its bases, qualities and errors, and each strand's evidence; and when they are
 // too short. Uses lists, refusals and methylation.
+#![tactic(auto)]
+
 ghost use Rattle.std.specs.Prelude.{◌≡◌};
 ghost use Rattle.duplex_outputs.specs.Outputs.{record_too_short};
 

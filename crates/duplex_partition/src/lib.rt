@@ -1,4 +1,6 @@
 // The partition of a molecule's reads by strand, from duplex_caller.rs. Uses lists and refusals only.
+#![tactic(auto)]
+
 ghost use Rattle.std.specs.Prelude.{◌≡◌, ◌≤◌, length};
 ghost use Rattle.lists.specs.Output.{put};
 ghost use Rattle.refusals.specs.Refusal.{refusal};

@@ -1,5 +1,7 @@
 // One position of a two-strand record, from duplex_caller.rs (combine_strands): base and quality of two strands' bases and
 // qualities, without a methylation call and with one. Uses dna and phred.
+#![tactic(auto)]
+
 ghost use Rattle.std.specs.Prelude.{◌≡◌};
 ghost use Rattle.duplex_position.specs.Combination.{agreed, disagreed, masked, uncalled, called};
 

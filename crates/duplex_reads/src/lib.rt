@@ -1,5 +1,7 @@
 // A molecule's reads before they are combined, from duplex_caller.rs: what their flags say, and the read gate. A read is given
 // by its flags. Uses lists, refusals, flags and duplex_min_reads.
+#![tactic(auto)]
+
 ghost use Rattle.std.specs.Prelude.{◌≡◌, ◌≤◌, length};
 ghost use Rattle.lists.specs.Count.{count_if};
 ghost use Rattle.duplex_reads.specs.Reads.{is_paired, is_paired_r1, is_paired_r2, written_flags, count_r1, gate_answer, read_gate, all_reverse_as, same_strand};

@@ -1,5 +1,7 @@
 // Why a position of a record shows N, document 02's #101: one of seven reasons, or that the base is called, or that the position is not one
 // of two strands. Uses lists, dna, methylation, vanilla_caller, duplex_molecule and duplex_kind.
+#![tactic(auto)]
+
 ghost use Rattle.std.specs.Prelude.{◌≡◌};
 ghost use Rattle.vanilla_caller.specs.Strand.{arrays};
 ghost use Rattle.duplex_kind.specs.Kind.{strand};

@@ -1,6 +1,8 @@
 // The duplex record, from duplex_caller.rs (duplex_consensus): of two strands, one or none, without the source reads, whose
 // errors are counted later. Uses lists, refusals, methylation, vanilla_caller, duplex_molecule, duplex_call, duplex_outputs,
 // duplex_strands, duplex_annotated, duplex_single and duplex_kind.
+#![tactic(auto)]
+
 ghost use Rattle.std.specs.Prelude.{◌≡◌, false, []};
 ghost use Rattle.methylation.specs.declared.Annotation.TheVariants.{Absent};
 ghost use Rattle.vanilla_caller.specs.Strand.{arrays};

@@ -1,4 +1,6 @@
 // The kind of a duplex record and its length as numbers, for the entry points that programs link. Uses replies and duplex_kind.
+#![tactic(auto)]
+
 ghost use Rattle.std.specs.Prelude.{◌≡◌};
 ghost use Rattle.duplex_reply.specs.Reply.{record_for};
 

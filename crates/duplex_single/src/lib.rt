@@ -1,5 +1,7 @@
 // One strand alone as a duplex record, from duplex_caller.rs and methylation.rs. Uses lists, refusals, methylation, vanilla_caller,
 // methylation_evidence and duplex_outputs.
+#![tactic(auto)]
+
 ghost use Rattle.std.specs.Prelude.{◌≡◌, [], ◌≤◌, length};
 ghost use Rattle.refusals.specs.Refusal.{refusal};
 ghost use Rattle.methylation.specs.Arrays.{evidence_arrays, PutsEvidence};

@@ -1,6 +1,8 @@
 // Two strands combined position by position, from duplex_caller.rs (combine_strands): what refuses them, what is written of them
 // (specs/Combine.antt), and the call for strands without annotation. Uses refusals, methylation, vanilla_caller, duplex_molecule,
 // duplex_arrays, duplex_evidence and duplex_outputs.
+#![tactic(auto)]
+
 ghost use Rattle.std.specs.Prelude.{◌≡◌, []};
 ghost use Rattle.refusals.specs.Refusal.{refusal};
 ghost use Rattle.methylation.specs.declared.Annotation.TheVariants.{Absent};

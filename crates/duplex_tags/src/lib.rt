@@ -1,5 +1,7 @@
 // The methylation tags of a duplex record, from methylation.rs: its texts and its counts. Uses lists, refusals, methylation,
 // methylation_evidence and duplex_texts.
+#![tactic(auto)]
+
 ghost use Rattle.std.specs.Prelude.{◌≡◌, ◌||◌, ◌≤◌, length};
 ghost use Rattle.refusals.specs.Refusal.{refusal, refuse_if};
 ghost use Rattle.duplex_texts.specs.Texts.{strand, text_arrays};

@@ -1,5 +1,7 @@
 // The sequence, MM and ML of a duplex record, from methylation.rs. Uses lists, refusals, methylation, methylation_evidence,
 // methylation_restore and mm_ml.
+#![tactic(auto)]
+
 ghost use Rattle.std.specs.Prelude.{◌≡◌, true, ◌++◌, ◌+◌, ◌≤◌, length, take};
 ghost use Rattle.lists.specs.Output.{put};
 ghost use Rattle.lists.specs.Part.{part};

@@ -1,5 +1,7 @@
 // Reads an encoded molecule from standard input and prints its record: document 01's line program, on a tray. What is printed is
 // line_molecule's. The file stdin has the document's example, and stdout the lines that it prints.
+#![tactic(auto)]
+
 use line_molecule::duplex_line;
 
 const STDIN: i32 = 0;

@@ -1,5 +1,7 @@
 // One field of the tag-length-value encoding of document 01's tray: a tag byte, the value's length in two bytes, low byte first,
 // and the value. What tags and values mean is for the crates above. Uses lists and byte_numbers.
+#![tactic(auto)]
+
 ghost use Rattle.std.specs.Prelude.{◌≡◌};
 ghost use Rattle.fields.specs.Encoding.{next_field};
 

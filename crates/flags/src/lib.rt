@@ -1,4 +1,6 @@
 // The FLAG bits of the SAM specification that a caller tests or writes (fgumi_raw_bam::flags). Uses nothing.
+#![tactic(auto)]
+
 ghost use Rattle.std.specs.Prelude.{◌≡◌};
 ghost use Rattle.flags.specs.Flags.{is_set};
 

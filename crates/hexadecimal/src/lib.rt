@@ -1,4 +1,6 @@
 // 32-bit numbers as hexadecimal text: eight digits, most significant first, in lower case. Uses lists.
+#![tactic(auto)]
+
 ghost use Rattle.std.specs.Prelude.{◌≡◌, ◌-◌, ◌^◌, ◌<◌, length, take};
 ghost use Rattle.lists.specs.Output.{put};
 ghost use Rattle.hexadecimal.specs.Hexadecimal.{hex_digit, digit_at, hexadecimal};

@@ -1,5 +1,7 @@
 // The texts that a record is reported with: a header and a line of what the record is, that there is none, or a refusal. Uses
 // decimal, line_output, metrics_bits and line_metrics.
+#![tactic(auto)]
+
 ghost use Rattle.std.specs.Prelude.{◌≤◌, length};
 ghost use Rattle.line_output.specs.Text.{Written, Appended};
 ghost use Rattle.line_metrics.specs.MetricsText.{metrics_text};

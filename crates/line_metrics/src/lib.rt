@@ -1,4 +1,6 @@
 // The metrics of a record as text: ten numbers, a blank before each. Uses decimal, hexadecimal, line_output and metrics_bits.
+#![tactic(auto)]
+
 ghost use Rattle.std.specs.Prelude.{◌≤◌, length};
 ghost use Rattle.line_output.specs.Text.{Appended};
 ghost use Rattle.line_metrics.specs.MetricsText.{field, rate_field, figures_text, metrics_text};

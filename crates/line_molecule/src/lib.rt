@@ -1,5 +1,7 @@
 // The text that duplexline prints for an encoded molecule: the line program of document 01, but for reading and writing.
 // Uses lists, methylation, byte_numbers, molecule_encoding, duplex_min_reads, line_record and line_strands.
+#![tactic(auto)]
+
 ghost use Rattle.std.specs.Prelude.{◌≡◌, drop};
 ghost use Rattle.molecule_encoding.specs.Format.{value_at};
 ghost use Rattle.line_record.specs.Line.{Holds};

@@ -1,5 +1,7 @@
 // Writers of text. Each writes as much of its text as there is room for from a place of out on, and answers the place behind it,
 // where the next one starts. Uses lists, decimal and hexadecimal.
+#![tactic(auto)]
+
 ghost use Rattle.std.specs.Prelude.{◌≡◌, ◌*◌, ◌≤◌, length};
 ghost use Rattle.decimal.specs.Decimal.{decimal};
 ghost use Rattle.hexadecimal.specs.Hexadecimal.{hexadecimal};

@@ -1,5 +1,7 @@
 // The line that a duplex record is reported with, from what the library answered and wrote. Uses lists, duplex_kind, metrics_bits, line_format
 // and line_report.
+#![tactic(auto)]
+
 ghost use Rattle.byte_numbers.specs.Bytes.{words16};
 ghost use Rattle.line_format.specs.Line.{columns, line_text, none_text, refused_text};
 ghost use Rattle.line_report.specs.Report.{counts, strands};

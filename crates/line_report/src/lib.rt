@@ -1,5 +1,7 @@
 // What is reported of an answer beside its positions: its kind, its gate and its metrics, which are asked here on the record's own
 // strands. Uses lists, byte_numbers, duplex_kind, duplex_reads, duplex_gate, metrics_bits and line_format.
+#![tactic(auto)]
+
 ghost use Rattle.std.specs.Prelude.{◌≡◌, take};
 ghost use Rattle.byte_numbers.specs.Bytes.{words16};
 ghost use Rattle.duplex_metrics.specs.Metrics.{input};

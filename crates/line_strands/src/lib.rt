@@ -1,5 +1,7 @@
 // The text that duplexline prints for two strands given as bytes, once the thresholds are known to be valid. Uses methylation,
 // duplex_kind, molecule_consensus and line_record.
+#![tactic(auto)]
+
 ghost use Rattle.line_record.specs.Line.{Holds};
 ghost use Rattle.molecule_strand.specs.Strand.{strand_bytes};
 ghost use Rattle.line_strands.specs.Strands.{strands_text};

@@ -1,5 +1,7 @@
 // Total reads, copies, fills, fronts and parts of slices, a module for each width in use. The laws on lists and on lent outputs that
 // every crate cites are in specs/ and proofs/, over any element type. Uses nothing.
+#![tactic(auto)]
+
 mod u16s;
 mod u32s;
 mod u8s;

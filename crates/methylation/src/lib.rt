@@ -1,5 +1,7 @@
 // Methylation: chemistries, conversion patterns, annotations and their evidence, from methylation.rs and lib.rs. Uses lists,
 // refusals, dna and flags.
+#![tactic(auto)]
+
 ghost use Rattle.std.specs.Prelude.{◌≡◌};
 ghost use Rattle.methylation.specs.Arrays.{evidence_arrays, evidence_places, evidence_lengths, evidence_too_long, evidence_ragged, evidence_uneven, evidence_too_short};
 ghost use Rattle.methylation.specs.Methylation.{is_enabled, pattern_of_flags, pattern_bases, is_annotated, is_cg, is_cpg_context, evidence_if};

@@ -1,5 +1,7 @@
 // Methylation at one position: whether its base is tracked and called, and its ML byte, from methylation.rs. Uses dna and
 // methylation.
+#![tactic(auto)]
+
 ghost use Rattle.std.specs.Prelude.{◌≡◌};
 ghost use Rattle.methylation_calls.specs.Calls.{is_tracked, is_called, methylated, ml_of};
 

@@ -1,6 +1,8 @@
 // The evidence of a strand's annotation, from methylation.rs: marks and two counts in lent slices, cleared where not
 // informative, cut to a length, and as the count tags hold them. The pattern takes no part. Uses lists, refusals, numbers,
 // methylation and vanilla_caller.
+#![tactic(auto)]
+
 ghost use Rattle.std.specs.Prelude.{◌≡◌, ◌≤◌, map, length, take};
 ghost use Rattle.lists.specs.Output.{put, answer, after};
 ghost use Rattle.refusals.specs.Refusal.{refusal};

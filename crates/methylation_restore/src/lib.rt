@@ -1,5 +1,7 @@
 // Restoring the unconverted bases of a sequence by a strand's annotation, from methylation.rs, and a strand's bases so restored,
 // from duplex_caller.rs. Uses lists, refusals, dna, methylation and methylation_evidence.
+#![tactic(auto)]
+
 ghost use Rattle.std.specs.Prelude.{◌≡◌, true, ◌≤◌, length};
 ghost use Rattle.lists.specs.Output.{put, answer, after};
 ghost use Rattle.methylation.specs.Methylation.{is_annotated};

@@ -1,5 +1,7 @@
 // The metrics of a record with its rates as their bits, which is how they are handed out as text and to C. What a call answers is
 // duplex_metrics's. Uses duplex_metrics.
+#![tactic(auto)]
+
 ghost use Rattle.std.specs.Prelude.{◌≡◌};
 ghost use Rattle.duplex_metrics.specs.Metrics.{input, metrics_of};
 ghost use Rattle.metrics_bits.specs.Bits.{Numbers, in_bits, metrics_words};

@@ -3,3 +3,4 @@
 // vanilla_caller, duplex_molecule, duplex_position, duplex_errors, duplex_call, duplex_arrays, source_reads, duplex_min_reads,
 // duplex_reads, duplex_gate, duplex_depths, duplex_metrics, metrics_bits, duplex_outputs, duplex_strands, duplex_kind, duplex_record
 // and duplex_consensus.
+#![tactic(auto)]

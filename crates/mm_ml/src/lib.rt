@@ -1,4 +1,6 @@
 // The MM and ML tags of one strand, from methylation.rs. Uses lists, refusals, decimal, methylation and methylation_calls.
+#![tactic(auto)]
+
 ghost use Rattle.std.specs.Prelude.{◌≡◌, ◌++◌, ◌∷◌, cond, ◌+◌, ◌<◌, ◌≤◌, length, take};
 ghost use Rattle.lists.specs.Output.{put};
 ghost use Rattle.refusals.specs.Refusal.{refusal};

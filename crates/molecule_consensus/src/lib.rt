@@ -1,6 +1,8 @@
 // The duplex record of strands given as bytes: what an encoded molecule and the entry points for C have in common. What is looked at,
 // rows 13 and 7 and the numbers are molecule_strand's, the record duplex_record's, the reads molecule_errors's.
 // Uses methylation, molecule_strand, duplex_kind, duplex_record and molecule_errors.
+#![tactic(auto)]
+
 ghost use Rattle.std.specs.Prelude.{[]};
 ghost use Rattle.methylation.specs.declared.Annotation.TheVariants.{Absent};
 ghost use Rattle.duplex_outputs.specs.Outputs.{record_of};

@@ -1,6 +1,8 @@
 // The encoding of a molecule, the tray of document 01: thresholds, two strands with their annotations and a read list, as fields
 // of the tag-length-value encoding. This crate owns their order, what a strand and a list need, and row 13 for them; values stay parts
 // of the caller's bytes. Uses lists, refusals, fields and molecule_fields.
+#![tactic(auto)]
+
 ghost use Rattle.std.specs.Prelude.{◌≡◌, true, ◌+◌, ◌≤◌, length};
 ghost use Rattle.fields.specs.Encoding.{whole_fields};
 ghost use Rattle.molecule_encoding.specs.Format.{follows, ascending, span_of, strand_of, strand_fits, reads_after, fields_fit, molecule, complete, decoded};

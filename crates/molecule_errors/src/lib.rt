@@ -1,5 +1,7 @@
 // The source reads of a duplex record as a run of reads, as an encoded molecule and the entry points for C have them: how many are
 // listed, and their errors. Uses methylation, duplex_molecule, duplex_kind, duplex_consensus and molecule_reads.
+#![tactic(auto)]
+
 ghost use Rattle.std.specs.Prelude.{◌≡◌};
 ghost use Rattle.duplex_molecule.specs.Molecule.{ct_input};
 ghost use Rattle.duplex_consensus.specs.Consensus.{counted_positions};

@@ -1,5 +1,7 @@
 // A strand's evidence as bytes, nine for each position: read from bytes, and written as bytes to a lent output, as many whole
 // positions as there is room for. Uses lists and byte_numbers.
+#![tactic(auto)]
+
 ghost use Rattle.std.specs.Prelude.{◌≡◌, ◌+◌, ◌/◌, ◌≤◌, length, take};
 ghost use Rattle.std.proofs.lemmas.List.Edits.{sets};
 ghost use Rattle.lists.specs.Output.{put};

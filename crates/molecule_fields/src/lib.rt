@@ -1,5 +1,7 @@
 // A field of an encoded molecule by itself, the tray of document 01: its tag, the widths of its value, an annotation's pattern
 // and marks, and what a read is. Uses lists, byte_numbers and fields.
+#![tactic(auto)]
+
 ghost use Rattle.std.specs.Prelude.{◌≡◌};
 ghost use Rattle.lists.specs.Every.{every, among};
 ghost use Rattle.fields.specs.Encoding.{field, field_at};

@@ -1,6 +1,8 @@
 // The reads of a run: the next one, how many there are, and their errors. A run, as an encoded molecule (the tray of document 01)
 // and the entry points for C have it, is whole fields of the tag-length-value encoding, each a read. A read's bases stay a part of it.
 // Uses lists, refusals, fields, molecule_fields, duplex_molecule and source_reads.
+#![tactic(auto)]
+
 ghost use Rattle.std.specs.Prelude.{◌≡◌};
 ghost use Rattle.source_reads.specs.Reads.{shown_errors, counted_errors};
 ghost use Rattle.molecule_reads.specs.Run.{reads_of, next_read, CountedAs};

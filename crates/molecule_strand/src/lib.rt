@@ -1,5 +1,7 @@
 // A strand given as bytes: what of it is looked at, the rows that are tested of its byte counts before its numbers are read, 13 and 7,
 // and its numbers. Uses lists, refusals, methylation, vanilla_caller, byte_numbers and molecule_evidence.
+#![tactic(auto)]
+
 ghost use Rattle.std.specs.Prelude.{◌≡◌, ◌&&◌};
 ghost use Rattle.lists.specs.Part.{only_if};
 ghost use Rattle.refusals.specs.Refusal.{refusal};

@@ -1,5 +1,7 @@
 // The smaller and the larger of two numbers, and sums held to the largest number of a type, a module for each width in use.
 // Uses nothing.
+#![tactic(auto)]
+
 mod u16s;
 mod u32s;
 

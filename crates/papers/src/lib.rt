@@ -2,3 +2,4 @@
 // consensus reads. specs/Papers.antt states them, proofs/ has the proofs. There is no code. Uses lists, refusals, dna, phred, flags,
 // decimal, line_output, caller, methylation, methylation_calls, methylation_evidence, mm_ml, mm_reading, duplex_molecule,
 // duplex_position, duplex_call, duplex_min_reads, duplex_reads and duplex_metrics.
+#![tactic(auto)]

@@ -1,4 +1,6 @@
 // The range of a Phred quality, from phred.rs, and the hold to it. Uses nothing.
+#![tactic(auto)]
+
 ghost use Rattle.std.specs.Prelude.{◌≡◌};
 ghost use Rattle.phred.specs.Phred.{capped_quality};
 

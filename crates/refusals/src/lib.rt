@@ -1,5 +1,7 @@
 // The rows of document 01's refusal table, the limits that they name, and the test of one row. specs/Refusal.antt has their
 // order. A call's refusal is a number of u8: 0 where it is not refused. Uses nothing.
+#![tactic(auto)]
+
 ghost use Rattle.std.specs.Prelude.{◌≡◌};
 ghost use Rattle.refusals.specs.Refusal.{refuse_if};
 

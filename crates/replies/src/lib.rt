@@ -1,5 +1,7 @@
 // Answers and choices as numbers, for the entry points that programs link: what a number stands for, and what an answer is as
 // numbers. Uses methylation.
+#![tactic(auto)]
+
 ghost use Rattle.std.specs.Prelude.{◌≡◌};
 ghost use Rattle.replies.specs.Choices.{annotation_of, pattern_of, mode_of, wrong_annotation, wrong_pattern, wrong_mode};
 

@@ -1,5 +1,7 @@
 // Entry points over numbers as they are: two strands combined, and a strand alone as a record. Uses refusals, replies,
 // duplex_strands, duplex_annotated and duplex_single.
+#![tactic(auto)]
+
 ghost use Rattle.std.specs.Prelude.{◌≡◌, ◌||◌, []};
 ghost use Rattle.replies.specs.Choices.{yes, annotation_of, wrong_annotation};
 ghost use Rattle.replies.specs.Replies.{not_counted, PassedOn, RepliedAs};

@@ -1,6 +1,8 @@
 // The entry points over the methylation calls: numbers and native slices, choices and answers as numbers. A number that stands for
 // nothing is refused as 13, before all else. Uses refusals, methylation, replies, methylation_evidence, methylation_restore, mm_ml,
 // duplex_tags and rust_strand.
+#![tactic(auto)]
+
 ghost use Rattle.std.specs.Prelude.{◌≡◌, ◌||◌};
 ghost use Rattle.replies.specs.Choices.{annotation_of, pattern_of, mode_of, wrong_annotation, wrong_pattern, wrong_mode};
 ghost use Rattle.replies.specs.Replies.{not_counted, RepliedAs};

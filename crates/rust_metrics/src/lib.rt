@@ -1,5 +1,7 @@
 // Entry points over numbers as they are: a record's depths, and the metrics of a strand and of a record. Uses replies,
 // duplex_depths, duplex_metrics and metrics_bits.
+#![tactic(auto)]
+
 ghost use Rattle.std.specs.Prelude.{◌≡◌};
 ghost use Rattle.lists.specs.Output.{answer, after};
 ghost use Rattle.replies.specs.Choices.{yes};

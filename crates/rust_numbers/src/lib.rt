@@ -1,5 +1,7 @@
 // Entry points over numbers: the calls of one quality, depth, rate, name, pattern, flag and base, with answers and choices as numbers.
 // What a call answers is the library's. Uses refusals, phred, rates, caller, methylation, replies, duplex_reads and duplex_molecule.
+#![tactic(auto)]
+
 ghost use Rattle.std.specs.Prelude.{◌≡◌, cond, length};
 ghost use Rattle.lists.specs.Output.{answer, after};
 ghost use Rattle.phred.specs.Phred.{capped_quality};

@@ -1,5 +1,7 @@
 // Entry points over numbers as they are: the padding of a strand. Uses refusals, dna, phred, methylation, replies and
 // vanilla_padded.
+#![tactic(auto)]
+
 ghost use Rattle.std.specs.Prelude.{◌≡◌};
 ghost use Rattle.replies.specs.Choices.{yes, annotation_of, wrong_annotation};
 ghost use Rattle.replies.specs.Replies.{no_number, RepliedAs};

@@ -1,5 +1,7 @@
 // Entry points over numbers: the calls of a molecule's reads, the gates and the partition, with answers as numbers. What a call
 // answers is the library's. Uses replies, duplex_reads, duplex_gate and duplex_partition.
+#![tactic(auto)]
+
 ghost use Rattle.std.specs.Prelude.{◌≡◌};
 ghost use Rattle.duplex_reads.specs.Reads.{read_gate, same_strand};
 ghost use Rattle.duplex_gate.specs.ConsensusGate.{consensus_gate};

@@ -1,5 +1,7 @@
 // Why a position of a record shows N, document 02's #101, as an entry point over numbers as they are: the answer as numbers, and row 13
 // for an annotation. Uses refusals, replies and duplex_reason.
+#![tactic(auto)]
+
 ghost use Rattle.std.specs.Prelude.{◌≡◌, ◌&&◌, ◌||◌};
 ghost use Rattle.replies.specs.Choices.{yes, annotation_of, wrong_annotation};
 ghost use Rattle.vanilla_caller.specs.Strand.{arrays};

@@ -1,5 +1,7 @@
 // Entry points over numbers as they are: a strand's depths, and the evidence of its annotation. Uses replies, vanilla_caller and
 // methylation_evidence.
+#![tactic(auto)]
+
 ghost use Rattle.std.specs.Prelude.{◌≡◌, length};
 ghost use Rattle.lists.specs.Output.{answer, after};
 ghost use Rattle.replies.specs.Replies.{PassedOn};

@@ -1,5 +1,7 @@
 // Entry points over numbers: the thresholds, the flags of a consensus read and the strand that an MI names, with answers and choices
 // as numbers. What a call answers is the library's. Uses refusals, replies, duplex_min_reads, duplex_reads and duplex_partition.
+#![tactic(auto)]
+
 ghost use Rattle.std.specs.Prelude.{◌≡◌, cond};
 ghost use Rattle.replies.specs.Replies.{no_number, numbered};
 ghost use Rattle.duplex_min_reads.specs.MinReads.{validated, min_yx_reads, single_strand};

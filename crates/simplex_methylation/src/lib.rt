@@ -1,5 +1,7 @@
 // Methylation evidence of a simplex consensus, from methylation.rs, as an entry point over numbers. Uses lists, refusals, dna,
 // methylation, replies and source_reads.
+#![tactic(auto)]
+
 ghost use Rattle.std.specs.Prelude.{◌≡◌, false, cond, ◌&&◌, [], ◌∷◌, ℕ, ◌+◌, ◌-◌, ◌<◌, ◌≤◌, min, length, replicate, eqb};
 ghost use Rattle.lists.specs.Output.{answer, put};
 ghost use Rattle.refusals.specs.Refusal.{refusal};

@@ -1,5 +1,7 @@
 // Source reads: a list of reads, each with its flags and its bases as a part of one byte buffer, and how many of them are errors
 // at each position of a record. Uses lists, refusals, numbers, flags, duplex_molecule and duplex_call.
+#![tactic(auto)]
+
 ghost use Rattle.std.specs.Prelude.{◌≡◌, ◌&&◌, ◌||◌, [], ◌∷◌, ◌≤◌, length, get_or};
 ghost use Rattle.lists.specs.Output.{put};
 ghost use Rattle.lists.specs.Table.{tabulate};

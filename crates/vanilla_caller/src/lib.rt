@@ -1,5 +1,7 @@
 // The strand, from vanilla_caller.rs: a single-strand consensus as lent slices (bases, qualities, depths and errors, and perhaps
 // an annotation's evidence), what refuses it, and its depths. Uses lists, refusals, numbers and methylation.
+#![tactic(auto)]
+
 ghost use Rattle.std.specs.Prelude.{◌≡◌};
 ghost use Rattle.numbers.specs.Numbers.{largest, smallest};
 ghost use Rattle.vanilla_caller.specs.Depth.{max_depth, min_depth};

@@ -1,5 +1,7 @@
 // Padding of a strand, from vanilla_caller.rs. Uses lists, refusals, dna, phred, methylation,
 // vanilla_caller and methylation_evidence.
+#![tactic(auto)]
+
 ghost use Rattle.std.specs.Prelude.{◌≡◌, ◌≤◌, length};
 ghost use Rattle.lists.specs.Output.{put};
 ghost use Rattle.refusals.specs.Refusal.{refusal};
