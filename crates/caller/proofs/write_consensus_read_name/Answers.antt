@@ -14,19 +14,26 @@ use Rattle.caller.proofs.write_consensus_read_name.Goals as goal
 
 pub returns-then-number-ne0 : goal.returns-then-number-ne0
 unfolding name_faults
-returns-then-number-ne0 c = (answer_refused Refused _ (let number_here : c.refuse_if-number.result ≡ name_refused c.args.read_name_prefix.now c.args.umi.now c.args.out.now = in_order _ cc in number_here) c.if-number-ne0.true, after_refused _ _ (let number_here : c.refuse_if-number.result ≡ name_refused c.args.read_name_prefix.now c.args.umi.now c.args.out.now = in_order _ cc in number_here) c.if-number-ne0.true)
+returns-then-number-ne0 c =
+    let n : c.refuse_if-number.result ≡ name_refused c.args.read_name_prefix.now c.args.umi.now c.args.out.now = in_order _ cc in
+    record {
+      value = answer_refused Refused _ n c.if-number-ne0.true;
+      out_after = after_refused _ _ n c.if-number-ne0.true;
+    }
 
 pub write_name-requires : goal.write_name-requires
 unfolding name_faults name_too_short
 write_name-requires c =
-    let fits = (passed OutputTooShort _ (let number_here : c.refuse_if-number.result ≡ name_refused c.args.read_name_prefix.now c.args.umi.now c.args.out.now = in_order _ cc in number_here) c.if-number-ne0.false).0 in
+    let n : c.refuse_if-number.result ≡ name_refused c.args.read_name_prefix.now c.args.umi.now c.args.out.now = in_order _ cc in
+    let fits = (passed OutputTooShort _ n c.if-number-ne0.false).0 in
     omega (arith, name_length c.args.read_name_prefix.now c.args.umi.now, ltb-false (length c.args.out.now) (length c.args.read_name_prefix.now + 1 + length c.args.umi.now) fits)
 
 pub returns : goal.returns
 unfolding name_faults
 returns c =
-    let n = (let number_here : c.refuse_if-number.result ≡ name_refused c.args.read_name_prefix.now c.args.umi.now c.args.out.now = in_order _ cc in number_here) in
-    let zero = c.if-number-ne0.false in (
-      ap Written (sym (name_length c.args.read_name_prefix.now c.args.umi.now)) ∙ answer_passed Refused _ n zero,
-      c.write_name.ensures ∙ after_passed _ _ n zero,
-    )
+    let n : c.refuse_if-number.result ≡ name_refused c.args.read_name_prefix.now c.args.umi.now c.args.out.now = in_order _ cc in
+    let zero = c.if-number-ne0.false in
+    record {
+      value = ap Written (sym (name_length c.args.read_name_prefix.now c.args.umi.now)) ∙ answer_passed Refused _ n zero;
+      out_after = c.write_name.ensures ∙ after_passed _ _ n zero;
+    }
