@@ -18,10 +18,12 @@ returns-then-number-ne0 c = answer_refused Refused _ c.rate_refusal-number.ensur
 pub rate_of-requires : goal.rate_of-requires
 unfolding rate_faults
 rate_of-requires c =
-    let a = c.args in
-    ((not_ragged (length a.depths.now) (length a.errors.now ∷ []) (passed Ragged _ c.rate_refusal-number.ensures c.if-number-ne0.false).0).0, (let few_here : Every (λ n. n ≤ 1024) (let a = c.args in
-    length a.depths.now ∷ length a.errors.now ∷ []) = not_too_long (let a = c.args in
-    length a.depths.now ∷ length a.errors.now ∷ []) (passed TooLong _ c.rate_refusal-number.ensures c.if-number-ne0.false).0 in few_here).0)
+    let a = c.args in (
+      (not_ragged (length a.depths.now) (length a.errors.now ∷ []) (passed Ragged _ c.rate_refusal-number.ensures c.if-number-ne0.false).0).0,
+      (let few_here : Every (λ n. n ≤ 1024) (let a = c.args in
+          length a.depths.now ∷ length a.errors.now ∷ []) = not_too_long (let a = c.args in
+          length a.depths.now ∷ length a.errors.now ∷ []) (passed TooLong _ c.rate_refusal-number.ensures c.if-number-ne0.false).0 in few_here).0,
+    )
 
 pub returns : goal.returns
 unfolding error_rate
