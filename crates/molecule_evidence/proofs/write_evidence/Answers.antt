@@ -7,11 +7,8 @@ use lib.Seq.{sets}
 use Rattle.byte_numbers.proofs.Groups.{same_join, join_room, begin_write, next_write, done_write}
 use Rattle.molecule_evidence.specs.Evidence.{position_bytes, evidence_bytes}
 use Rattle.molecule_evidence.proofs.Evidence.{length_position}
+use Rattle.molecule_evidence.proofs.write_evidence.Invariants.{at}
 use Rattle.molecule_evidence.proofs.write_evidence.Goals as goal
-
--- A position's bytes, by its mark and its place.
-abbrev at : List ℕ → List ℕ → ℕ → ℕ → List ℕ
-at unconverted converted mark i = position_bytes mark (get_or unconverted i 0) (get_or converted i 0)
 
 -- The counts that are stored, given by equations.
 of_counts :
