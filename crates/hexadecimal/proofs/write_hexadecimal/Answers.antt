@@ -25,5 +25,8 @@ loop-i-preserved c =
 pub shape_of-out : goal.shape_of-out
 shape_of-out c = same c.loop-i.invariant.filling
 
-pub returns : goal.returns
-returns c = (sym (length_hexadecimal _), done c.loop-i.invariant.filling c.loop-i-test.false)
+pub returns-clause-value : goal.returns-clause-value
+returns-clause-value c = sym (length_hexadecimal _)
+
+pub returns-clause-out_after : goal.returns-clause-out_after
+returns-clause-out_after c = done c.loop-i.invariant.filling c.loop-i-test.false
