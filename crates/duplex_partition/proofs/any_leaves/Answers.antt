@@ -2,7 +2,6 @@
 -- Assumes nothing.
 use mathlib.Core.List.{[]}
 use mathlib.Core.Path.{refl, ◌∙◌}
-use Prim.Native.Nat.{◌-◌}
 use native.Mathlib.Omega.{arith}
 use Rattle.lists.proofs.Fold.{fold_next, fold_all}
 use Rattle.duplex_partition.specs.Partition.{any_mi_leaves}

@@ -17,8 +17,7 @@ pub returns-then-number-ne0 : goal.returns-then-number-ne0
 unfolding partition_refused
 returns-then-number-ne0 c =
     let refused = c.if-number-ne0.true in
-    let n = (let number_here : let a = c.args in
-    c.partition_refusal-number.result ≡ partition_refused a.reads.now a.bytes.now a.a-out.now a.b-out.now = rw (c.partition_refusal-number.ensures, c.first_offence.ensures, c.any_leaves.ensures) in number_here) in
+    let n : c.partition_refusal-number.result ≡ partition_refused c.args.reads.now c.args.bytes.now c.args.a_out.now c.args.b_out.now = rw (c.partition_refusal-number.ensures, c.first_offence.ensures, c.any_leaves.ensures) in
     record { answered = answer_refused Refused _ n refused; list_a = after_refused _ _ n refused; list_b = after_refused _ _ n refused }
 
 -- Where no row refuses, the reads are few enough to number and both lists have room.
@@ -29,17 +28,18 @@ room n leaving a b found e zero =
     (ltb-false _ _ (passed TooManyReads _ e zero).0, (short.0, short.1.0))
 
 pub write_partition-counts-requires : goal.write_partition-counts-requires
-write_partition-counts-requires c = room _ _ _ _ _ c.partition_refusal-number.ensures c.if-number-ne0.false
+write_partition-counts-requires c =
+    let r = room _ _ _ _ _ c.partition_refusal-number.ensures c.if-number-ne0.false in
+    record { reads_len_bound = r.0; reads_in_bounds = r.1 }
 
 pub returns : goal.returns
 unfolding partition_refused
 returns c =
     let written = c.write_partition-counts.ensures in
-    let n = (let number_here : let a = c.args in
-    c.partition_refusal-number.result ≡ partition_refused a.reads.now a.bytes.now a.a-out.now a.b-out.now = rw (c.partition_refusal-number.ensures, c.first_offence.ensures, c.any_leaves.ensures) in number_here) in
+    let n : c.partition_refusal-number.result ≡ partition_refused c.args.reads.now c.args.bytes.now c.args.a_out.now c.args.b_out.now = rw (c.partition_refusal-number.ensures, c.first_offence.ensures, c.any_leaves.ensures) in
     let zero = c.if-number-ne0.false in
     record {
       answered = cc (answer_passed Refused (Partitioned _ _ _) n zero);
-      list_a = rw written.1.0 (after_passed _ _ n zero);
-      list_b = rw written.1.1 (after_passed _ _ n zero);
+      list_a = rw written.a_out_after (after_passed _ _ n zero);
+      list_b = rw written.b_out_after (after_passed _ _ n zero);
     }
