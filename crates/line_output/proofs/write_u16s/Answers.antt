@@ -9,11 +9,14 @@ loop-i-init c = begin 6 _ _ _ c.smaller-end.ensures
 
 pub loop-i-preserved : goal.loop-i-preserved
 loop-i-preserved c =
-    let small = c.shared_slice_known-in-loop-i-1.given c.loop-i.i in
+    let small = c.type_inv.numbers c.loop-i.i in
     turn 4 c.loop-i.invariant c.loop-i-test.true c.write_item-end.ensures (omega arith)
 
 pub shape_of-out : goal.shape_of-out
 shape_of-out c = same_size c.loop-i.invariant.written.written
 
-pub returns : goal.returns
-returns c = done c.loop-i.invariant c.loop-i-test.false
+pub returns-clause-appended : goal.returns-clause-appended
+returns-clause-appended c = (done c.loop-i.invariant c.loop-i-test.false).0
+
+pub returns-clause-numbers_len_bound : goal.returns-clause-numbers_len_bound
+returns-clause-numbers_len_bound c = (done c.loop-i.invariant c.loop-i-test.false).1
