@@ -1,6 +1,7 @@
 -- `methylation_evidence::summed_counts` meets its contract: refused by its number, or written where the output has room. Assumes nothing.
+use mathlib.Core.Path.{◌∙◌}
 use borrow.Author.Tests.{ltb-false}
-use Rattle.lists.proofs.Told.{told_refused, told_written}
+use Rattle.lists.proofs.Output.{answer_refused, answer_passed, after_refused, after_passed}
 use Rattle.refusals.specs.Refusal.{OutputTooShort}
 use Rattle.refusals.proofs.Refusal.{passed}
 use Rattle.methylation_evidence.specs.Counts.{summed_faults}
@@ -8,7 +9,7 @@ use Rattle.methylation_evidence.specs.declared.Positions.TheVariants.{Refused}
 use Rattle.methylation_evidence.proofs.summed_counts.Goals as goal
 
 pub returns-then-number-ne0 : goal.returns-then-number-ne0
-returns-then-number-ne0 c = told_refused Refused _ _ _ c.summed_refusal-number.ensures c.if-number-ne0.true
+returns-then-number-ne0 c = record { value = answer_refused Refused _ c.summed_refusal-number.ensures c.if-number-ne0.true; out_after = after_refused _ _ c.summed_refusal-number.ensures c.if-number-ne0.true }
 
 pub write_summed-requires : goal.write_summed-requires
 unfolding summed_faults
@@ -17,4 +18,4 @@ write_summed-requires c =
 
 pub returns : goal.returns
 returns c =
-    told_written Refused _ _ _ c.summed_refusal-number.ensures c.if-number-ne0.false c.write_summed.ensures
+    record { value = answer_passed Refused _ c.summed_refusal-number.ensures c.if-number-ne0.false; out_after = c.write_summed.ensures ∙ after_passed _ _ c.summed_refusal-number.ensures c.if-number-ne0.false }

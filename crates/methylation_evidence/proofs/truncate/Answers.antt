@@ -22,7 +22,7 @@ write_truncated-requires c =
     let number = c.truncate_refusal-number.ensures in
     let same = equal_lengths _ (passed Ragged _ number c.if-number-ne0.false).0 in
     let room = enough_room _ _ (passed OutputTooShort _ number c.if-number-ne0.false).0 in
-    rw c.smaller-n.ensures ((omega arith, room.0), ((omega arith, room.1), (omega arith, room.2)))
+    rw c.smaller-n.ensures record { n_in_bounds = (omega arith, room.0); n_in_bounds_2 = (omega arith, room.1); n_in_bounds_3 = (omega arith, room.2) }
 
 pub returns : goal.returns
 unfolding truncate_faults

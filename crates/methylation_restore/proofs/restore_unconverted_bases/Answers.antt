@@ -1,9 +1,9 @@
 -- `methylation_restore::restore_unconverted_bases` meets its contract: refused by its number, or restored. Assumes nothing.
-use mathlib.Core.Path.{◌≡◌}
+use mathlib.Core.Path.{◌≡◌, ◌∙◌}
 use native.Mathlib.Omega.{arith}
 use lib.ListN.{length}
 use borrow.Author.Tests.{eqb-true, not-false}
-use Rattle.lists.proofs.Told.{told_refused, told_written}
+use Rattle.lists.proofs.Output.{answer_refused, answer_passed, after_refused, after_passed}
 use Rattle.refusals.specs.Refusal.{Ragged}
 use Rattle.refusals.proofs.Refusal.{passed}
 use Rattle.methylation_evidence.specs.declared.Positions.TheVariants.{Refused}
@@ -11,7 +11,7 @@ use Rattle.methylation_restore.specs.Restore.{restore_faults}
 use Rattle.methylation_restore.proofs.restore_unconverted_bases.Goals as goal
 
 pub returns-then-number-ne0 : goal.returns-then-number-ne0
-returns-then-number-ne0 c = told_refused Refused _ _ _ c.restore_refusal-number.ensures c.if-number-ne0.true
+returns-then-number-ne0 c = record { value = answer_refused Refused _ c.restore_refusal-number.ensures c.if-number-ne0.true; out_after = after_refused _ _ c.restore_refusal-number.ensures c.if-number-ne0.true }
 
 pub restore-requires : goal.restore-requires
 unfolding restore_faults
@@ -20,4 +20,4 @@ restore-requires c = omega (arith, (let as_many_here : length c.args.marks.now �
 pub returns : goal.returns
 unfolding restore_faults
 returns c =
-    told_written Refused _ _ _ c.restore_refusal-number.ensures c.if-number-ne0.false (rw (c.bases.ensures, (let as_many_here : length c.args.marks.now ≡ length c.args.consensus_bases.now = eqb-true _ _ (not-false _ (passed Ragged _ c.restore_refusal-number.ensures c.if-number-ne0.false).0) in as_many_here)) at c.restore.ensures)
+    record { value = answer_passed Refused _ c.restore_refusal-number.ensures c.if-number-ne0.false; out_after = (rw (c.bases.ensures, (let as_many_here : length c.args.marks.now ≡ length c.args.consensus_bases.now = eqb-true _ _ (not-false _ (passed Ragged _ c.restore_refusal-number.ensures c.if-number-ne0.false).0) in as_many_here)) at c.restore.ensures) ∙ after_passed _ _ c.restore_refusal-number.ensures c.if-number-ne0.false }

@@ -16,13 +16,17 @@ module _ (value : List ℕ) (i : ℕ) where
   mark_count : length (marks value) ≡ length value / 9
   unfolding marks
   mark_count = length_tabulate _ _
+
   mark_at : i < length value / 9 → get_or (marks value) i 0 ≡ get_or value (9 * i + 1) 0
   unfolding marks
   mark_at h = get_d_tabulate (length value / 9) (λ k. get_or value (9 * k + 1) 0) i 0 h
+
   passed : i < length value / 9 → get_or value (9 * i + 1) 0 ≤ 1 → every is_bit (drop i (marks value)) ≡ every is_bit (drop (i + 1) (marks value))
   passed h bit = every_passed is_bit (marks value) i 0 (rw mark_count h) (rw (mark_at h) (le-leb _ _ bit))
+
   failed : i < length value / 9 → 1 < get_or value (9 * i + 1) 0 → every is_bit (drop i (marks value)) ≡ false
   failed h more = every_failed is_bit (marks value) i 0 (rw mark_count h) (rw (mark_at h) (lt-leb _ _ more))
+
   ended : length value / 9 ≤ i → every is_bit (drop i (marks value)) ≡ true
   ended h = every_none is_bit (marks value) i (rw mark_count h)
 
