@@ -22,15 +22,21 @@ returns-then-number-ne0 c = answer_refused Refused _ (let number_here : let a = 
 
 pub write_combined-requires : goal.write_combined-requires
 unfolding range_faults record_too_long
-write_combined-requires c = omega (arith, (let few_here : c.args.positions ≤ 1024 = let a = c.args in
-    (not_too_long (a.positions ∷ length a.ab.now ∷ length a.ba.now ∷ []) (passed TooLong _ (let number_here : let a = c.args in
-    c.refuse_if-number.result ≡ range_refused a.positions a.ab.now a.ba.now = in_order _ (c.refuse_if-number.ensures ∙ rw c.record_too_long.ensures) in number_here) c.if-number-ne0.false).0).0 in few_here))
+write_combined-requires c = omega (
+  arith,
+  (let few_here : c.args.positions ≤ 1024 = let a = c.args in
+      (not_too_long (a.positions ∷ length a.ab.now ∷ length a.ba.now ∷ []) (passed TooLong _ (let number_here : let a = c.args in
+      c.refuse_if-number.result ≡ range_refused a.positions a.ab.now a.ba.now = in_order _ (c.refuse_if-number.ensures ∙ rw c.record_too_long.ensures) in number_here) c.if-number-ne0.false).0).0 in few_here),
+)
 
 pub slice_bounds-extremes-end : goal.slice_bounds-extremes-end
 unfolding range_faults record_too_long
-slice_bounds-extremes-end c = omega (arith, (let few_here : c.args.positions ≤ 1024 = let a = c.args in
-    (not_too_long (a.positions ∷ length a.ab.now ∷ length a.ba.now ∷ []) (passed TooLong _ (let number_here : let a = c.args in
-    c.refuse_if-number.result ≡ range_refused a.positions a.ab.now a.ba.now = in_order _ (c.refuse_if-number.ensures ∙ rw c.record_too_long.ensures) in number_here) c.if-number-ne0.false).0).0 in few_here))
+slice_bounds-extremes-end c = omega (
+  arith,
+  (let few_here : c.args.positions ≤ 1024 = let a = c.args in
+      (not_too_long (a.positions ∷ length a.ab.now ∷ length a.ba.now ∷ []) (passed TooLong _ (let number_here : let a = c.args in
+      c.refuse_if-number.result ≡ range_refused a.positions a.ab.now a.ba.now = in_order _ (c.refuse_if-number.ensures ∙ rw c.record_too_long.ensures) in number_here) c.if-number-ne0.false).0).0 in few_here),
+)
 
 pub returns : goal.returns
 unfolding depth_range range_faults

@@ -1,6 +1,6 @@
 -- `duplex_depths::extremes` meets its contract: after i turns it has the smallest of the first depth and of the first i, and the largest of
 -- the first i. Assumes nothing.
-use Prim.Native.Nat.{◌-◌, min, max}
+use Prim.Native.Nat.{min, max}
 use native.Mathlib.Omega.{arith}
 use mathlib.Core.Path.{refl, ap₂, ◌∙◌}
 use Rattle.lists.proofs.Fold.{fold_step, fold_all}

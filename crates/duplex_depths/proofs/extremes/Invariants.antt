@@ -1,5 +1,5 @@
 -- What the loop keeps.
-use Prim.Native.Nat.{◌≤◌, ◌-◌, min, max}
+use Prim.Native.Nat.{◌≤◌, ◌-◌, min}
 use mathlib.Core.Path.{◌≡◌}
 use mathlib.Core.List.{foldl}
 use lib.ListN.{length, take, get_or}

@@ -1,6 +1,5 @@
 -- `duplex_depths::write_combined` meets its contract: its four loops fill the output with the combined depths, one behind the other. Assumes
 -- nothing.
-use Prim.Native.Nat.{◌-◌}
 use mathlib.Core.Path.{◌∙◌}
 use native.Mathlib.Omega.{arith}
 use Rattle.lists.proofs.Output.{same, fits, done}
