@@ -6,7 +6,7 @@ use Rattle.duplex_arrays.proofs.Positions.{estimates_length, estimate_at}
 use Rattle.duplex_arrays.proofs.fill_called_estimates.Goals as goal
 
 pub loop-i-init : goal.loop-i-init
-loop-i-init c = begin (estimates_length _ _ _ _) c.requires.1.1
+loop-i-init c = begin (estimates_length _ _ _ _) c.requires.n_in_bounds_3
 
 pub bounds-errors_out-i : goal.bounds-errors_out-i
 bounds-errors_out-i c = fits c.loop-i.invariant c.loop-i-test.true
@@ -23,25 +23,25 @@ pub returns : goal.returns
 returns c = done c.loop-i.invariant c.loop-i-test.false
 
 pub bounds-a_bases-i : goal.bounds-a_bases-i
-bounds-a_bases-i c = lt_of_lt_of_le c.loop-i-test.true c.requires.0.0
+bounds-a_bases-i c = lt_of_lt_of_le c.loop-i-test.true c.requires.n_in_bounds.0
 
 pub bounds-a_quals-i : goal.bounds-a_quals-i
-bounds-a_quals-i c = lt_of_lt_of_le c.loop-i-test.true c.requires.0.1
+bounds-a_quals-i c = lt_of_lt_of_le c.loop-i-test.true c.requires.n_in_bounds.1
 
 pub bounds-a_depths-i : goal.bounds-a_depths-i
-bounds-a_depths-i c = lt_of_lt_of_le c.loop-i-test.true c.requires.0.2
+bounds-a_depths-i c = lt_of_lt_of_le c.loop-i-test.true c.requires.n_in_bounds.2
 
 pub bounds-a_errors-i : goal.bounds-a_errors-i
-bounds-a_errors-i c = lt_of_lt_of_le c.loop-i-test.true c.requires.0.3
+bounds-a_errors-i c = lt_of_lt_of_le c.loop-i-test.true c.requires.n_in_bounds.3
 
 pub bounds-b_bases-i : goal.bounds-b_bases-i
-bounds-b_bases-i c = lt_of_lt_of_le c.loop-i-test.true c.requires.1.0.0
+bounds-b_bases-i c = lt_of_lt_of_le c.loop-i-test.true c.requires.n_in_bounds_2.0
 
 pub bounds-b_quals-i : goal.bounds-b_quals-i
-bounds-b_quals-i c = lt_of_lt_of_le c.loop-i-test.true c.requires.1.0.1
+bounds-b_quals-i c = lt_of_lt_of_le c.loop-i-test.true c.requires.n_in_bounds_2.1
 
 pub bounds-b_depths-i : goal.bounds-b_depths-i
-bounds-b_depths-i c = lt_of_lt_of_le c.loop-i-test.true c.requires.1.0.2
+bounds-b_depths-i c = lt_of_lt_of_le c.loop-i-test.true c.requires.n_in_bounds_2.2
 
 pub bounds-b_errors-i : goal.bounds-b_errors-i
-bounds-b_errors-i c = lt_of_lt_of_le c.loop-i-test.true c.requires.1.0.3
+bounds-b_errors-i c = lt_of_lt_of_le c.loop-i-test.true c.requires.n_in_bounds_2.3

@@ -9,7 +9,7 @@ use Rattle.duplex_arrays.proofs.fill_positions.Goals as goal
 
 pub loop-i-init : goal.loop-i-init
 loop-i-init c =
-    (begin (bases_length _ _ _ _) c.requires.1.1.0, begin (quals_length _ _ _ _) c.requires.1.1.1)
+    (begin (bases_length _ _ _ _) c.requires.n_in_bounds_3.0, begin (quals_length _ _ _ _) c.requires.n_in_bounds_3.1)
 
 pub bounds-bases_out-i : goal.bounds-bases_out-i
 bounds-bases_out-i c = fits c.loop-i.invariant.0 c.loop-i-test.true
@@ -31,16 +31,19 @@ pub shape_of-quals_out : goal.shape_of-quals_out
 shape_of-quals_out c = same c.loop-i.invariant.1
 
 pub returns : goal.returns
-returns c = (done c.loop-i.invariant.0 c.loop-i-test.false, done c.loop-i.invariant.1 c.loop-i-test.false)
+returns c = record {
+  bases_out_after = done c.loop-i.invariant.0 c.loop-i-test.false;
+  quals_out_after = done c.loop-i.invariant.1 c.loop-i-test.false;
+}
 
 pub bounds-a_bases-i : goal.bounds-a_bases-i
-bounds-a_bases-i c = lt_of_lt_of_le c.loop-i-test.true c.requires.0.0
+bounds-a_bases-i c = lt_of_lt_of_le c.loop-i-test.true c.requires.n_in_bounds.0
 
 pub bounds-a_quals-i : goal.bounds-a_quals-i
-bounds-a_quals-i c = lt_of_lt_of_le c.loop-i-test.true c.requires.0.1
+bounds-a_quals-i c = lt_of_lt_of_le c.loop-i-test.true c.requires.n_in_bounds.1
 
 pub bounds-b_bases-i : goal.bounds-b_bases-i
-bounds-b_bases-i c = lt_of_lt_of_le c.loop-i-test.true c.requires.1.0.0
+bounds-b_bases-i c = lt_of_lt_of_le c.loop-i-test.true c.requires.n_in_bounds_2.0
 
 pub bounds-b_quals-i : goal.bounds-b_quals-i
-bounds-b_quals-i c = lt_of_lt_of_le c.loop-i-test.true c.requires.1.0.1
+bounds-b_quals-i c = lt_of_lt_of_le c.loop-i-test.true c.requires.n_in_bounds_2.1

@@ -17,18 +17,26 @@ pub fill_called_positions-requires : goal.fill_called_positions-requires
 fill_called_positions-requires c =
     let (marks, all) = reached _ _ _ _ (sym c.positions_short.ensures ∙ c.if-positions_short.false) in
     let marked = marks c.if-calls.true in
-    ((all.0, all.1.0, marked.0), ((all.1.1.0, all.1.1.1.0, marked.1.0), (all.1.1.1.1.0, all.1.1.1.1.1.0)))
+    record {
+      n_in_bounds = (all.0, all.1.0, marked.0);
+      n_in_bounds_2 = (all.1.1.0, all.1.1.1.0, marked.1.0);
+      n_in_bounds_3 = (all.1.1.1.1.0, all.1.1.1.1.1.0);
+    }
 
 pub returns-then-calls : goal.returns-then-calls
 returns-then-calls c =
     let enough = rw c.can_call-calls.ensures at (sym c.positions_short.ensures ∙ c.if-positions_short.false) in
     let written = c.fill_called_positions.ensures in
-    record { bases_now = all_written _ _ enough written.0; quals_now = all_written _ _ enough written.1 }
+    record { bases_now = all_written _ _ enough written.bases_out_after; quals_now = all_written _ _ enough written.quals_out_after }
 
 pub fill_positions-requires : goal.fill_positions-requires
 fill_positions-requires c =
     let all = (reached _ _ _ _ (sym c.positions_short.ensures ∙ c.if-positions_short.false)).1 in
-    ((all.0, all.1.0), ((all.1.1.0, all.1.1.1.0), (all.1.1.1.1.0, all.1.1.1.1.1.0)))
+    record {
+      n_in_bounds = (all.0, all.1.0);
+      n_in_bounds_2 = (all.1.1.0, all.1.1.1.0);
+      n_in_bounds_3 = (all.1.1.1.1.0, all.1.1.1.1.1.0);
+    }
 
 pub returns : goal.returns
 unfolding combined_bases combined_quals combined call_at
@@ -37,4 +45,4 @@ returns c =
     let none = without_calls ct (sym c.can_call-calls.ensures ∙ c.if-calls.false) in
     let enough = rw c.can_call-calls.ensures at (sym c.positions_short.ensures ∙ c.if-positions_short.false) in
     let written = c.fill_positions.ensures in
-    record { bases_now = all_written _ _ enough (rw none written.0); quals_now = all_written _ _ enough (rw none written.1) }
+    record { bases_now = all_written _ _ enough (rw none written.bases_out_after); quals_now = all_written _ _ enough (rw none written.quals_out_after) }

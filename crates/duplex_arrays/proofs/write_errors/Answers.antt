@@ -24,7 +24,11 @@ returns-then-listed c =
 pub fill_called_estimates-requires : goal.fill_called_estimates-requires
 fill_called_estimates-requires c =
     let all = (reached _ _ _ _ (sym c.errors_short.ensures ∙ c.if-errors_short.false)).1 in
-    ((all.0, all.1.0, all.1.1.0, all.1.1.1.0), ((all.1.1.1.1.0, all.1.1.1.1.1.0, all.1.1.1.1.1.1.0, all.1.1.1.1.1.1.1.0), all.1.1.1.1.1.1.1.1.0))
+    record {
+      n_in_bounds = (all.0, all.1.0, all.1.1.0, all.1.1.1.0);
+      n_in_bounds_2 = (all.1.1.1.1.0, all.1.1.1.1.1.0, all.1.1.1.1.1.1.0, all.1.1.1.1.1.1.1.0);
+      n_in_bounds_3 = all.1.1.1.1.1.1.1.1.0;
+    }
 
 pub returns-then-can_call : goal.returns-then-can_call
 unfolding combined_errors
@@ -35,7 +39,11 @@ returns-then-can_call c =
 pub fill_estimates-requires : goal.fill_estimates-requires
 fill_estimates-requires c =
     let all = (reached _ _ _ _ (sym c.errors_short.ensures ∙ c.if-errors_short.false)).1 in
-    ((all.0, all.1.0, all.1.1.0, all.1.1.1.0), ((all.1.1.1.1.0, all.1.1.1.1.1.0, all.1.1.1.1.1.1.0, all.1.1.1.1.1.1.1.0), all.1.1.1.1.1.1.1.1.0))
+    record {
+      n_in_bounds = (all.0, all.1.0, all.1.1.0, all.1.1.1.0);
+      n_in_bounds_2 = (all.1.1.1.1.0, all.1.1.1.1.1.0, all.1.1.1.1.1.1.0, all.1.1.1.1.1.1.1.0);
+      n_in_bounds_3 = all.1.1.1.1.1.1.1.1.0;
+    }
 
 pub returns : goal.returns
 unfolding combined_errors

@@ -11,10 +11,14 @@ returns-then-positions_short c =
 pub fill_positions-requires : goal.fill_positions-requires
 fill_positions-requires c =
     let all = (reached _ _ _ _ (sym c.positions_short.ensures ∙ c.if-positions_short.false)).1 in
-    ((all.0, all.1.0), ((all.1.1.0, all.1.1.1.0), (all.1.1.1.1.0, all.1.1.1.1.1.0)))
+    record {
+      n_in_bounds = (all.0, all.1.0);
+      n_in_bounds_2 = (all.1.1.0, all.1.1.1.0);
+      n_in_bounds_3 = (all.1.1.1.1.0, all.1.1.1.1.1.0);
+    }
 
 pub returns : goal.returns
 returns c =
     let enough = sym c.positions_short.ensures ∙ c.if-positions_short.false in
     let written = c.fill_positions.ensures in
-    record { bases_now = all_written _ _ enough written.0; quals_now = all_written _ _ enough written.1 }
+    record { bases_now = all_written _ _ enough written.bases_out_after; quals_now = all_written _ _ enough written.quals_out_after }
