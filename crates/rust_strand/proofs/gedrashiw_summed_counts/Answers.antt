@@ -5,4 +5,4 @@ use Rattle.rust_strand.proofs.gedrashiw_summed_counts.Goals as goal
 pub returns : goal.returns
 returns c =
     let called = c.summed_counts.ensures in
-    (rw (c.positions_count.ensures, called.0), called.1)
+    record { value = rw (c.positions_count.ensures, called.value); out_after = called.out_after }

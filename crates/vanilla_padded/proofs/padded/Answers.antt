@@ -18,13 +18,13 @@ pub write_padded-requires : goal.write_padded-requires
 write_padded-requires c =
     let number = by_lengths _ _ _ _ c.lengths_of-strand.ensures c.padded_refusal-number.ensures in
     let r = room _ _ _ _ number c.if-number-ne0.false in
-    (r.bases, (r.quals, (r.depths, r.errors)))
+    record { bases_len_bound = r.bases; quals_len_bound = r.quals; depths_len_bound = r.depths; errors_len_bound = r.errors }
 
 pub write_evidence-requires : goal.write_evidence-requires
 write_evidence-requires c =
     let number = by_lengths _ _ _ _ c.lengths_of-strand.ensures c.padded_refusal-number.ensures in
     let r = room _ _ _ _ number c.if-number-ne0.false in
-    rw (c.evidence_places-places.ensures, c.is_annotated.ensures) (r.marks, (r.unconverted, r.converted))
+    rw (c.evidence_places-places.ensures, c.is_annotated.ensures) record { places_in_bounds = r.marks; places_in_bounds_2 = r.unconverted; places_in_bounds_3 = r.converted }
 
 pub returns : goal.returns
 returns c =
@@ -35,11 +35,11 @@ returns c =
     record {
       answered = ap Written c.kept_annotation.ensures ∙ answer_passed Refused _ number passed;
       outputs = leaves_passed number passed (record {
-        bases = c.write_padded.ensures.0;
-        quals = c.write_padded.ensures.1.0;
-        depths = c.write_padded.ensures.1.1.0;
-        errors = c.write_padded.ensures.1.1.1;
-        ⟪place After-write_evidence⟫ = record {
+        bases = c.write_padded.ensures.bases_out_after;
+        quals = c.write_padded.ensures.quals_out_after;
+        depths = c.write_padded.ensures.depths_out_after;
+        errors = c.write_padded.ensures.errors_out_after;
+        evidence = record {
           marks = c.write_evidence.ensures.marks ∙ put_equal _ (ap (map mark) (all_or_none_lem _ _ _ places (λ k. (r.whole k).0)));
           unconverted = c.write_evidence.ensures.unconverted ∙ put_equal _ (all_or_none_lem _ _ _ places (λ k. (r.whole k).1));
           converted = c.write_evidence.ensures.converted ∙ put_equal _ (all_or_none_lem _ _ _ places (λ k. (r.whole k).2));

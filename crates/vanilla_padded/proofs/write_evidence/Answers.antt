@@ -8,7 +8,7 @@ pub returns : goal.returns
 returns c =
     let pre = c.requires in
     record {
-      ⟪place After-copy_marks⟫ = c.copy_marks.ensures ∙ copied_map mark _ _ _ pre.0.1;
-      ⟪place After-copy_u32⟫ = c.copy_u32.ensures ∙ copied_part _ _ _ pre.1.0.1;
-      ⟪place After-copy_u32-2⟫ = c.copy_u32-2.ensures ∙ copied_part _ _ _ pre.1.1.1;
+      marks = c.copy_marks.ensures ∙ copied_map mark _ _ _ pre.places_in_bounds.1;
+      unconverted = c.copy_u32.ensures ∙ copied_part _ _ _ pre.places_in_bounds_2.1;
+      converted = c.copy_u32-2.ensures ∙ copied_part _ _ _ pre.places_in_bounds_3.1;
     }
