@@ -1,0 +1,112 @@
+// A strand padded to a length. The calls are those of rust_padded.
+ghost use Rattle.replies.specs.Choices.{yes, annotation_of, wrong_annotation};
+ghost use Rattle.replies.specs.Replies.{no_number, RepliedAs};
+ghost use Rattle.vanilla_caller.specs.Strand.{arrays};
+ghost use Rattle.vanilla_padded.specs.Padding.{padding, PaddedAs, default_padding};
+ghost use Rattle.rust_padded.specs.Answers.{padded_number};
+
+use replies::Number;
+
+// Adds positions to a strand, on the left where left is not 0; answers the annotation that it keeps. Refuses by 13, 7, 8, 11, 12.
+#[unsafe(no_mangle)]
+pub extern "C" fn gedrashiw_padded(
+    bases: &[u8],
+    quals: &[u8],
+    depths: &[u16],
+    errors: &[u16],
+    annotation: u8,
+    marks: &[u8],
+    unconverted: &[u32],
+    converted: &[u32],
+    new_length: usize,
+    left: u8,
+    base: u8,
+    qual: u8,
+    bases_out: &mut [u8],
+    quals_out: &mut [u8],
+    depths_out: &mut [u16],
+    errors_out: &mut [u16],
+    marks_out: &mut [u8],
+    unconverted_out: &mut [u32],
+    converted_out: &mut [u32],
+) -> Number
+    ensures { RepliedAs (wrong_annotation annotation) (no_number 13) padded_number
+        (PaddedAs (annotation_of annotation)
+        (arrays bases.now quals.now depths.now errors.now marks.now unconverted.now converted.now)
+        (padding new_length (yes left) base qual))
+        (arrays bases_out.old quals_out.old depths_out.old errors_out.old marks_out.old unconverted_out.old converted_out.old)
+        (arrays bases_out.new quals_out.new depths_out.new errors_out.new marks_out.new unconverted_out.new converted_out.new)
+        result }
+{
+    rust_padded::gedrashiw_padded(
+        bases,
+        quals,
+        depths,
+        errors,
+        annotation,
+        marks,
+        unconverted,
+        converted,
+        new_length,
+        left,
+        base,
+        qual,
+        bases_out,
+        quals_out,
+        depths_out,
+        errors_out,
+        marks_out,
+        unconverted_out,
+        converted_out,
+    )
+}
+
+// The same with the base n and the quality 2.
+#[unsafe(no_mangle)]
+pub extern "C" fn gedrashiw_padded_default(
+    bases: &[u8],
+    quals: &[u8],
+    depths: &[u16],
+    errors: &[u16],
+    annotation: u8,
+    marks: &[u8],
+    unconverted: &[u32],
+    converted: &[u32],
+    new_length: usize,
+    left: u8,
+    bases_out: &mut [u8],
+    quals_out: &mut [u8],
+    depths_out: &mut [u16],
+    errors_out: &mut [u16],
+    marks_out: &mut [u8],
+    unconverted_out: &mut [u32],
+    converted_out: &mut [u32],
+) -> Number
+    ensures { RepliedAs (wrong_annotation annotation) (no_number 13) padded_number
+        (PaddedAs (annotation_of annotation)
+        (arrays bases.now quals.now depths.now errors.now marks.now unconverted.now converted.now)
+        (default_padding new_length (yes left)))
+        (arrays bases_out.old quals_out.old depths_out.old errors_out.old marks_out.old unconverted_out.old converted_out.old)
+        (arrays bases_out.new quals_out.new depths_out.new errors_out.new marks_out.new unconverted_out.new converted_out.new)
+        result }
+{
+    rust_padded::gedrashiw_padded_default(
+        bases,
+        quals,
+        depths,
+        errors,
+        annotation,
+        marks,
+        unconverted,
+        converted,
+        new_length,
+        left,
+        bases_out,
+        quals_out,
+        depths_out,
+        errors_out,
+        marks_out,
+        unconverted_out,
+        converted_out,
+    )
+}
