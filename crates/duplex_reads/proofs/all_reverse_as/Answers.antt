@@ -1,5 +1,4 @@
 -- `duplex_reads::all_reverse_as` meets its contract: after i turns it has the answer for the first i reads. Assumes nothing.
-use Prim.Native.Nat.{◌-◌}
 use native.Mathlib.Omega.{arith}
 use mathlib.Core.Path.{refl, ◌∙◌}
 use mathlib.Core.Bool.{true}

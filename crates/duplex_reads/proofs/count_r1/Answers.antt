@@ -1,5 +1,4 @@
 -- `duplex_reads::count_r1` meets its contract: after i turns it has the count of the first i elements. Assumes nothing.
-use Prim.Native.Nat.{◌-◌}
 use Rattle.lists.proofs.Count.{begin, next, done}
 use Rattle.duplex_reads.specs.Reads.{is_paired_r1}
 use Rattle.duplex_reads.proofs.count_r1.Goals as goal

@@ -35,6 +35,7 @@ returns-in-Refused c = (let x = c.args in
     ∙ answer_map (gate_of x.number x.a x.b) Refused-thresholds (refused ts) (Thresholds (min_reads ts)))
 
 pub returns-then-reaches : goal.returns-then-reaches
+unfolding validated gate_answer
 returns-then-reaches c = ap verdict (sym c.if-reaches.true) ∙ (ap verdict c.reaches.ensures
     ∙ answer_passed Refused _ refl c.if-number-ne0.false
     ∙ (let x = c.args in
@@ -43,6 +44,7 @@ returns-then-reaches c = ap verdict (sym c.if-reaches.true) ∙ (ap verdict c.re
     ∙ answer_map (gate_of x.number x.a x.b) Refused-thresholds (refused ts) (Thresholds (min_reads ts))))
 
 pub returns-else-reaches : goal.returns-else-reaches
+unfolding validated gate_answer
 returns-else-reaches c = ap verdict (sym c.if-reaches.false) ∙ (ap verdict c.reaches.ensures
     ∙ answer_passed Refused _ refl c.if-number-ne0.false
     ∙ (let x = c.args in
