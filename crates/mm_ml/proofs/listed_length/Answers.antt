@@ -10,7 +10,7 @@ pub loop-i-init : goal.loop-i-init
 loop-i-init c = begin_listing _
 
 pub called_at-called-requires : goal.called_at-called-requires
-called_at-called-requires c = (c.requires, c.loop-i-test.true)
+called_at-called-requires c = record { evident = c.requires; i_in_bounds = c.loop-i-test.true }
 
 pub listed_after-mm-requires : goal.listed_after-mm-requires
 listed_after-mm-requires c =
@@ -44,7 +44,7 @@ pub loop-i-preserved : goal.loop-i-preserved
 loop-i-preserved c =
     let a = c.args in
     let s = annotated a.bases.now a.pattern a.marks.now a.unconverted.now a.converted.now in
-    turn_listing s c.called_at-called.result c.loop-i.invariant c.loop-i-test.true (sym c.called_at-called.ensures) (skipped_is s c.loop-i.i c.loop-i.skip {⟪place After-called_at-called⟫ = c.called_at-called.result} c.skip_after-skip.ensures refl c.is_tracked.ensures) c.listed_after-mm.ensures c.count_after-ml.ensures
+    turn_listing s c.called_at-called.result c.loop-i.invariant c.loop-i-test.true (sym c.called_at-called.ensures) (skipped_is s c.loop-i.i c.loop-i.skip {called = c.called_at-called.result} c.skip_after-skip.ensures refl c.is_tracked.ensures) c.listed_after-mm.ensures c.count_after-ml.ensures
 
 pub returns : goal.returns
 returns c =

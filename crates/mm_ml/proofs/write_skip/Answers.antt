@@ -11,15 +11,13 @@ slice_bounds-write_decimal-start c =
     let a = c.args in
     omega (arith, length-set a.mm.now a.at 44, c.requires)
 
-pub returns : goal.returns
-returns c =
-    let a = c.args in
-    let text = decimal a.skip in (
-      omega (arith, c.write_decimal.ensures.0),
-      after_comma a.mm.now a.at text c.requires c.write_decimal.ensures.1,
-    )
+pub returns-clause-value : goal.returns-clause-value
+returns-clause-value c = omega (arith, c.write_decimal.ensures.value)
+
+pub returns-clause-mm_after : goal.returns-clause-mm_after
+returns-clause-mm_after c = after_comma c.args.mm.now c.args.at (decimal c.args.skip) c.requires c.write_decimal.ensures.out_after
 
 pub shape_of-mm : goal.shape_of-mm
 shape_of-mm c =
     let a = c.args in
-    ap length (written c).1 ∙ text_length a.mm.now a.at (decimal a.skip) c.requires
+    ap length (after_comma a.mm.now a.at (decimal a.skip) c.requires c.write_decimal.ensures.out_after) ∙ text_length a.mm.now a.at (decimal a.skip) c.requires
