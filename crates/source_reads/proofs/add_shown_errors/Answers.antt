@@ -1,5 +1,4 @@
 -- `source_reads::add_shown_errors` meets its contract: its loop adds the errors of the bases, one position a turn. Assumes nothing.
-use Prim.Native.Nat.{◌-◌}
 use mathlib.Core.Path.{refl}
 use borrow.Author.Rules.{rules}
 use Rattle.lists.proofs.Output.{same, fits}

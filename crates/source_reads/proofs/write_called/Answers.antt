@@ -1,5 +1,4 @@
 -- `source_reads::write_called` meets its contract: its loop fills the front of the output. Assumes nothing.
-use Prim.Native.Nat.{◌-◌}
 use mathlib.Core.Path.{sym, ◌∙◌}
 use Rattle.lists.proofs.Output.{begin, next, same, fits, done}
 use Rattle.lists.proofs.Table.{length_tabulate, get_d_tabulate}
