@@ -6,8 +6,8 @@ pub returns : goal.returns
 returns c =
     numbers_seen c.seen_u8-depths.ensures c.seen_u8-errors.ensures
     record {
-      ⟪place After-read_u16s⟫ = c.read_u16s.ensures;
-      ⟪place After-read_u16s-2⟫ = c.read_u16s-2.ensures;
+      depths = c.read_u16s.ensures;
+      errors = c.read_u16s-2.ensures;
       depth_count = c.smaller-depth_count.ensures;
       error_count = c.smaller-error_count.ensures;
     }

@@ -8,11 +8,11 @@ returns c =
     of_seen c.seen_u8-depths.ensures c.seen_u8-errors.ensures
     (c.seen_u8-evidence.ensures ∙ rw c.is_annotated.ensures)
     record {
-      ⟪place After-read_u16s⟫ = c.read_u16s.ensures;
-      ⟪place After-read_u16s-2⟫ = c.read_u16s-2.ensures;
-      marks = c.read_evidence.ensures.0;
-      unconverted = c.read_evidence.ensures.1.0;
-      converted = c.read_evidence.ensures.1.1;
+      depths = c.read_u16s.ensures;
+      errors = c.read_u16s-2.ensures;
+      marks = c.read_evidence.ensures.marks_after;
+      unconverted = c.read_evidence.ensures.unconverted_after;
+      converted = c.read_evidence.ensures.converted_after;
       depth_count = c.smaller-depth_count.ensures;
       error_count = c.smaller-error_count.ensures;
       mark_count = c.smaller-mark_count.ensures;
