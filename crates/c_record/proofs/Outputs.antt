@@ -8,7 +8,6 @@ use mathlib.Core.Bool.{Bool, true, false}
 use mathlib.Core.List.{List, [], ◌∷◌}
 use Prim.Native.Nat.{ℕ, ◌/◌, ◌≤◌}
 use native.Mathlib.Omega.{arith}
-use borrow.Author.Rules.{zero≤}
 use lib.ListN.{length, take, length-take}
 use lib.Seq.{take_all}
 use Rattle.lists.specs.Output.{put}
@@ -66,7 +65,7 @@ record Room (w : Written) (out : RecordLengths) : Type 0 where
 
 places_fit : (there : Bool) {n k : ℕ} → (there ≡ true → n ≤ k) → evidence_places there n ≤ k
 places_fit true h = h refl
-places_fit false h = zero≤
+places_fit false h = omega arith
 
 room_for : (w : Written) (out : RecordLengths) → record_too_short w.positions w.first w.second out ≡ false → Room w out
 room_for w out h =

@@ -10,9 +10,9 @@ pub returns : goal.returns
 returns c =
     passed_on _ _ c.written_of-w.ensures c.positions_in-room.ensures c.record_too_short.ensures c.if-record_too_short.false
     record {
-      bases = c.write_own.ensures.0;
-      quals = c.write_own.ensures.1.0;
-      errors = c.write_own.ensures.1.1;
+      bases = c.write_own.ensures.bases_out_after;
+      quals = c.write_own.ensures.quals_out_after;
+      errors = c.write_own.ensures.errors_out_after;
       evidence_a = c.write_strand.ensures;
       evidence_b = c.write_strand-2.ensures;
     }
