@@ -20,31 +20,31 @@ use Rattle.duplex_metrics.specs.declared.MetricsLengths.{MetricsLengths}
 
 pub record Few (n : MetricsLengths) : Type 0 where
   pub a : n.a ≤ 1024
-  pub a_errors_is : n.a_errors ≤ 1024
+  pub a_errors : n.aErrors ≤ 1024
   pub bases : n.bases ≤ 1024
   pub errors : n.errors ≤ 1024
-  pub b : n.second ≡ true → (n.b ≤ 1024) × (n.b_errors ≤ 1024)
-  pub same_a : n.a_errors ≡ n.a
-  pub same_b : n.second ≡ true → n.b_errors ≡ n.b
+  pub b : n.second ≡ true → (n.b ≤ 1024) × (n.bErrors ≤ 1024)
+  pub same_a : n.aErrors ≡ n.a
+  pub same_b : n.second ≡ true → n.bErrors ≡ n.b
   pub same : n.errors ≡ n.bases
 
 pub few : (n : MetricsLengths) {number : ℕ} → number ≡ refusal (metrics_faults n) → number ≡ 0 → Few n
 unfolding metrics_faults
 few n e z =
-    let first = n.a ∷ n.a_errors ∷ n.bases ∷ n.errors ∷ [] in
-    let second = n.b ∷ n.b_errors ∷ [] in
+    let first = n.a ∷ n.aErrors ∷ n.bases ∷ n.errors ∷ [] in
+    let second = n.b ∷ n.bErrors ∷ [] in
     let (short, short_second) = nor_where (too_long first) n.second (too_long second) (passed TooLong (metrics_faults n) e z).0 in
     let each = not_too_long first short in
-    let (even, even_second) = nor_where (ragged (n.a ∷ n.a_errors ∷ []) || ragged (n.bases ∷ n.errors ∷ [])) n.second (ragged second) (passed Ragged (metrics_faults n) e z).0 in
-    let (even_a, even_record) = neither (ragged (n.a ∷ n.a_errors ∷ [])) (ragged (n.bases ∷ n.errors ∷ [])) even in
+    let (even, even_second) = nor_where (ragged (n.a ∷ n.aErrors ∷ []) || ragged (n.bases ∷ n.errors ∷ [])) n.second (ragged second) (passed Ragged (metrics_faults n) e z).0 in
+    let (even_a, even_record) = neither (ragged (n.a ∷ n.aErrors ∷ [])) (ragged (n.bases ∷ n.errors ∷ [])) even in
     record {
       a = each.0;
-      a_errors_is = each.1.0;
+      a_errors = each.1.0;
       bases = each.1.1.0;
       errors = each.1.1.1.0;
       b = λ h. let both = not_too_long second (short_second h) in (both.0, both.1.0);
-      same_a = (not_ragged n.a (n.a_errors ∷ []) even_a).0;
-      same_b = λ h. (not_ragged n.b (n.b_errors ∷ []) (even_second h)).0;
+      same_a = (not_ragged n.a (n.aErrors ∷ []) even_a).0;
+      same_b = λ h. (not_ragged n.b (n.bErrors ∷ []) (even_second h)).0;
       same = (not_ragged n.bases (n.errors ∷ []) even_record).0;
     }
 

@@ -39,15 +39,15 @@ module _ (x : Input) (r : MetricsRecord) (e : metrics_of x ≡ Of r) where
 
   pub a_number : T (not (is_nan r.aE))
   unfolding metrics_record strand_figures
-  a_number = rw record_is (number _ _ (omega (arith, capped_sum x.a_errors_is, short.a_errors_is)) (omega (arith, capped_sum x.a, short.a)))
+  a_number = rw record_is (number _ _ (omega (arith, capped_sum x.a_errors, short.a_errors)) (omega (arith, capped_sum x.a, short.a)))
 
   pub b_number : T (not (is_nan r.bE))
   unfolding metrics_record strand_figures
   b_number =
       let b = only_if x.second x.b in
-      let errors = only_if x.second x.b_errors_is in
+      let errors = only_if x.second x.b_errors in
       rw record_is
-      (number _ _ (omega (arith, capped_sum errors, only_few x.second x.b_errors_is (λ h. (short.b h).1))) (omega (arith, capped_sum b, only_few x.second x.b (λ h. (short.b h).0))))
+      (number _ _ (omega (arith, capped_sum errors, only_few x.second x.b_errors (λ h. (short.b h).1))) (omega (arith, capped_sum b, only_few x.second x.b (λ h. (short.b h).0))))
 
   pub c_number : T (not (is_nan r.cE))
   unfolding metrics_record record_figures

@@ -71,22 +71,22 @@ metrics_record a b c nc = record {
 -- record's bases and errors.
 pub record Input : Type 0 where
   pub a : List ℕ
-  pub a_errors_is : List ℕ
+  pub a_errors : List ℕ
   pub second : Bool
   pub b : List ℕ
-  pub b_errors_is : List ℕ
+  pub b_errors : List ℕ
   pub bases : List ℕ
   pub errors : List ℕ
 
 abbrev pub input : List ℕ → List ℕ → Bool → List ℕ → List ℕ → List ℕ → List ℕ → Input
-input a ae second b be bases errors = record { a = a; a_errors_is = ae; second = second; b = b; b_errors_is = be; bases = bases; errors = errors }
+input a ae second b be bases errors = record { a = a; a_errors = ae; second = second; b = b; b_errors = be; bases = bases; errors = errors }
 
 -- The figures behind a, b and c. An absent second strand has no positions.
 abbrev pub figures_a : Input → Figures
-figures_a x = strand_figures x.a x.a_errors_is
+figures_a x = strand_figures x.a x.a_errors
 
 abbrev pub figures_b : Input → Figures
-figures_b x = strand_figures (only_if x.second x.b) (only_if x.second x.b_errors_is)
+figures_b x = strand_figures (only_if x.second x.b) (only_if x.second x.b_errors)
 
 abbrev pub figures_c : Input → Figures
 figures_c x = record_figures x.a (only_if x.second x.b) x.errors
@@ -98,10 +98,10 @@ no_calls x = record_no_calls x.a (only_if x.second x.b) x.bases
 abbrev pub lengths : Input → MetricsLengths
 lengths x = record {
   a = length x.a;
-  a_errors = length x.a_errors_is;
+  aErrors = length x.a_errors;
   second = x.second;
   b = length x.b;
-  b_errors = length x.b_errors_is;
+  bErrors = length x.b_errors;
   bases = length x.bases;
   errors = length x.errors;
 }
@@ -109,8 +109,8 @@ lengths x = record {
 -- The second strand's arrays count where there is one.
 unfoldable pub metrics_faults : MetricsLengths → List Fault
 metrics_faults n =
-    (TooLong if (too_long (n.a ∷ n.a_errors ∷ n.bases ∷ n.errors ∷ []) || (n.second && too_long (n.b ∷ n.b_errors ∷ []))))
-    ∷ (Ragged if ((ragged (n.a ∷ n.a_errors ∷ []) || ragged (n.bases ∷ n.errors ∷ [])) || (n.second && ragged (n.b ∷ n.b_errors ∷ []))))
+    (TooLong if (too_long (n.a ∷ n.aErrors ∷ n.bases ∷ n.errors ∷ []) || (n.second && too_long (n.b ∷ n.bErrors ∷ []))))
+    ∷ (Ragged if ((ragged (n.a ∷ n.aErrors ∷ []) || ragged (n.bases ∷ n.errors ∷ [])) || (n.second && ragged (n.b ∷ n.bErrors ∷ []))))
     ∷ []
 
 abbrev pub metrics_refused : Input → ℕ

@@ -37,8 +37,8 @@ pub record Measured (kind : Kind) (n : ℕ) (r : Report) : Type 0 where
 -- A record's arrays, before they are cut to its length.
 pub record Even (n : ℕ) (x : Input) : Type 0 where
   pub small : n ≤ 1024
-  pub first : length x.a ≡ length x.a_errors_is
-  pub other : x.second ≡ true → length x.b ≡ length x.b_errors_is
+  pub first : length x.a ≡ length x.a_errors
+  pub other : x.second ≡ true → length x.b ≡ length x.b_errors
   pub bases : 1024 ≤ length x.bases
   pub errors : 1024 ≤ length x.errors
 
@@ -75,32 +75,32 @@ module _ (n : ℕ) (x : Input) (ok : Even n x) (ts : List ℕ) (z : refused ts �
   unfolding consensus_gate gate answer unless reached
   gate_is = ap (λ (k : ℕ). answer Refused-gate k (cond reached Kept Below)) gate_number
 
-  long_none : (too_long (length y.a ∷ length y.a_errors_is ∷ length y.bases ∷ length y.errors ∷ []) || (x.second && too_long (length y.b ∷ length y.b_errors_is ∷ []))) ≡ false
+  long_none : (too_long (length y.a ∷ length y.a_errors ∷ length y.bases ∷ length y.errors ∷ []) || (x.second && too_long (length y.b ∷ length y.b_errors ∷ []))) ≡ false
   long_none =
       rw
-      (le-ltb 1024 (length (take n x.a)) (few x.a), le-ltb 1024 (length (take n x.a_errors_is)) (few x.a_errors_is), le-ltb 1024 (length (take n x.bases)) (few x.bases), le-ltb 1024 (length (take n x.errors)) (few x.errors), le-ltb 1024 (length (take n x.b)) (few x.b), le-ltb 1024 (length (take n x.b_errors_is)) (few x.b_errors_is))
+      (le-ltb 1024 (length (take n x.a)) (few x.a), le-ltb 1024 (length (take n x.a_errors)) (few x.a_errors), le-ltb 1024 (length (take n x.bases)) (few x.bases), le-ltb 1024 (length (take n x.errors)) (few x.errors), le-ltb 1024 (length (take n x.b)) (few x.b), le-ltb 1024 (length (take n x.b_errors)) (few x.b_errors))
       (and_none x.second)
     where
       and_none : (b : Bool) → (b && false) ≡ false
       and_none true = refl
       and_none false = refl
 
-  ragged_none : ((ragged (length y.a ∷ length y.a_errors_is ∷ []) || ragged (length y.bases ∷ length y.errors ∷ [])) || (x.second && ragged (length y.b ∷ length y.b_errors_is ∷ []))) ≡ false
+  ragged_none : ((ragged (length y.a ∷ length y.a_errors ∷ []) || ragged (length y.bases ∷ length y.errors ∷ [])) || (x.second && ragged (length y.b ∷ length y.b_errors ∷ []))) ≡ false
   ragged_none =
-      let a : length (take n x.a_errors_is) ≡ length (take n x.a) = omega (arith, same_cut x.a x.a_errors_is ok.first) in
+      let a : length (take n x.a_errors) ≡ length (take n x.a) = omega (arith, same_cut x.a x.a_errors ok.first) in
       let r : length (take n x.errors) ≡ length (take n x.bases) = omega (arith, all_of x.errors ok.errors, all_of x.bases ok.bases) in
       rw (eq-eqb _ _ a, eq-eqb _ _ r) (go x.second ok.other)
     where
-      go : (second : Bool) → (second ≡ true → length x.b ≡ length x.b_errors_is) → (second && ragged (length y.b ∷ length y.b_errors_is ∷ [])) ≡ false
+      go : (second : Bool) → (second ≡ true → length x.b ≡ length x.b_errors) → (second && ragged (length y.b ∷ length y.b_errors ∷ [])) ≡ false
       go true same =
-          let b : length (take n x.b_errors_is) ≡ length (take n x.b) = omega (arith, same_cut x.b x.b_errors_is (same refl)) in
+          let b : length (take n x.b_errors) ≡ length (take n x.b) = omega (arith, same_cut x.b x.b_errors (same refl)) in
           rw (eq-eqb _ _ b)
       go false same = refl
 
   metrics_number : metrics_refused y ≡ 0
   unfolding metrics_faults refusal
   metrics_number =
-      ap (λ (l : Bool). cond l 7 (cond ((ragged (length y.a ∷ length y.a_errors_is ∷ []) || ragged (length y.bases ∷ length y.errors ∷ [])) || (x.second && ragged (length y.b ∷ length y.b_errors_is ∷ []))) 8 0)) long_none
+      ap (λ (l : Bool). cond l 7 (cond ((ragged (length y.a ∷ length y.a_errors ∷ []) || ragged (length y.bases ∷ length y.errors ∷ [])) || (x.second && ragged (length y.b ∷ length y.b_errors ∷ []))) 8 0)) long_none
       ∙ ap (λ (u : Bool). cond u 8 0) ragged_none
 
   made : MetricsRecord

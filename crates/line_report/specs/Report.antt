@@ -46,7 +46,7 @@ judged kind n x thresholds = gated_report kind n (consensus_gate n x.a x.b thres
 
 -- The first n of each array.
 abbrev pub front_input : ℕ → Input → Input
-front_input n x = input (take n x.a) (take n x.a_errors_is) x.second (take n x.b) (take n x.b_errors_is) (take n x.bases) (take n x.errors)
+front_input n x = input (take n x.a) (take n x.a_errors) x.second (take n x.b) (take n x.b_errors) (take n x.bases) (take n x.errors)
 
 -- A record of n positions, given what there is of its arrays and of its own strands: gate and metrics go over them as far as the record does.
 unfoldable pub record_report : Kind → ℕ → Input → List ℕ → Report

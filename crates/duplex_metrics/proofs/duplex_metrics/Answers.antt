@@ -17,22 +17,22 @@ returns-then-number-ne0 c = answer_refused Refused _ c.metrics_refusal-number.en
 pub metrics_over-requires : goal.metrics_over-requires
 metrics_over-requires c =
     let x = (let a = c.args in
-    input a.a_depths.now a.a_errors_is.now a.second a.b_depths.now a.b_errors_is.now a.bases.now a.errors.now) in
+    input a.a_depths.now a.a_errors.now a.second a.b_depths.now a.b_errors.now a.bases.now a.errors.now) in
     let s = (few _ c.metrics_refusal-number.ensures c.if-number-ne0.false) in
-    let b_errors_is = c.counted-b_error_count.ensures.0 in
-    let b_same = part_same x.second x.b x.b_errors_is c.counted-b_count.ensures.0 b_errors_is s.same_b in
-    let b_few = part_few x.second x.b_errors_is b_errors_is (λ h. (s.b h).1) in
-    ((omega (arith, s.same_a), s.a_errors_is), ((b_same, b_few), (omega (arith, s.same), s.errors)))
+    let b_errors = c.counted-b_error_count.ensures.0 in
+    let b_same = part_same x.second x.b x.b_errors c.counted-b_count.ensures.0 b_errors s.same_b in
+    let b_few = part_few x.second x.b_errors b_errors (λ h. (s.b h).1) in
+    ((omega (arith, s.same_a), s.a_errors), ((b_same, b_few), (omega (arith, s.same), s.errors)))
 
 record_of : List ℕ → List ℕ → Input → MetricsRecord
-record_of b b_errors_is x = metrics_record (figures_a x) (strand_figures b b_errors_is) (record_figures x.a b x.errors) (record_no_calls x.a b x.bases)
+record_of b b_errors x = metrics_record (figures_a x) (strand_figures b b_errors) (record_figures x.a b x.errors) (record_no_calls x.a b x.bases)
 
 pub returns : goal.returns
 unfolding metrics_of record_of
 returns c =
     let x = (let a = c.args in
-    input a.a_depths.now a.a_errors_is.now a.second a.b_depths.now a.b_errors_is.now a.bases.now a.errors.now) in
+    input a.a_depths.now a.a_errors.now a.second a.b_depths.now a.b_errors.now a.bases.now a.errors.now) in
     let b = looked_at x.second x.b c.counted-b_count.ensures.0 in
-    let b_errors_is = looked_at x.second x.b_errors_is c.counted-b_error_count.ensures.0 in
-    ap Of (c.metrics_over.ensures ∙ ap₂ (λ (l m : List ℕ). record_of l m x) b b_errors_is)
+    let b_errors = looked_at x.second x.b_errors c.counted-b_error_count.ensures.0 in
+    ap Of (c.metrics_over.ensures ∙ ap₂ (λ (l m : List ℕ). record_of l m x) b b_errors)
     ∙ answer_passed Refused _ c.metrics_refusal-number.ensures c.if-number-ne0.false
