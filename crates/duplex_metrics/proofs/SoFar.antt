@@ -2,6 +2,7 @@
 --     continues               with one position more they are those of the positions so far
 --     Reached                 what a loop has after i turns, a position a turn: begin, next, done
 --     depths-first, only-within     where the smallest is looked for from
+--     mark                    whether a position is a no-call
 --     no-calls-within         the no-calls, with bases and without
 --     depths-alike, alike     depths that agree within the record give the same depths, figures and no-calls
 --     cut_at, empty-at, padded-cut     arrays that agree so
@@ -24,6 +25,10 @@ use Rattle.caller.specs.Short.{short}
 use Rattle.duplex_metrics.specs.Metrics.{record_depth, record_depths, is_no_call, record_no_calls}
 use Rattle.duplex_metrics.specs.Running.{so_far, added, Continues, running}
 use Rattle.duplex_metrics.specs.declared.Running.{Running}
+
+-- Whether each position is a no-call.
+abbrev pub mark : List ℕ → List ℕ → List ℕ → ℕ → Bool
+mark a b bases i = is_no_call (get_or bases i 0) (record_depth a b i)
 
 abbrev is : Bool → Bool
 is met = met

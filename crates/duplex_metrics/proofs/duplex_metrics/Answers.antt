@@ -22,7 +22,11 @@ metrics_over-requires c =
     let b_errors = c.counted-b_error_count.ensures.0 in
     let b_same = part_same x.second x.b x.b_errors c.counted-b_count.ensures.0 b_errors s.same_b in
     let b_few = part_few x.second x.b_errors b_errors (λ h. (s.b h).1) in
-    ((omega (arith, s.same_a), s.a_errors), ((b_same, b_few), (omega (arith, s.same), s.errors)))
+    record {
+      a_depths_len = (omega (arith, s.same_a), s.a_errors);
+      b_depths_len = (b_same, b_few);
+      bases_len = (omega (arith, s.same), s.errors);
+    }
 
 record_of : List ℕ → List ℕ → Input → MetricsRecord
 record_of b b_errors x = metrics_record (figures_a x) (strand_figures b b_errors) (record_figures x.a b x.errors) (record_no_calls x.a b x.bases)

@@ -1,5 +1,5 @@
 -- `duplex_metrics::running_over` meets its contract: after i turns it has the figures of the first i positions. Assumes nothing.
-use Prim.Native.Nat.{ℕ, ◌-◌}
+use Prim.Native.Nat.{ℕ}
 use mathlib.Core.Path.{◌≡◌, sym, ap, ap₂, ◌∙◌}
 use mathlib.Core.Bool.{Bool, true, false}
 use mathlib.Core.List.{[], List}
@@ -12,12 +12,8 @@ use Rattle.duplex_metrics.specs.Metrics.{capped, record_depth, record_depths, is
 use Rattle.duplex_metrics.specs.Running.{so_far, running}
 use Rattle.duplex_metrics.proofs.Depths.{depths_length, depths_at, depth_bound, short_bound, capped_length, capped_at}
 use Rattle.duplex_metrics.proofs.Few.{looked_at}
-use Rattle.duplex_metrics.proofs.SoFar.{begin, next, done, depths_first, only_within, no_calls_within}
+use Rattle.duplex_metrics.proofs.SoFar.{mark, begin, next, done, depths_first, only_within, no_calls_within}
 use Rattle.duplex_metrics.proofs.running_over.Goals as goal
-
--- Whether each position is a no-call.
-abbrev mark : List ℕ → List ℕ → List ℕ → ℕ → Bool
-mark a b bases i = is_no_call (get_or bases i 0) (record_depth a b i)
 
 pub loop-i-init : goal.loop-i-init
 loop-i-init c =
@@ -31,8 +27,7 @@ depth_at-requires c =
     (omega (arith, c.loop-i-test.true), λ h. omega (arith, c.loop-i-test.true, c.requires.1 h))
 
 pub base_at-requires : goal.base_at-requires
-base_at-requires c =
-    omega (arith, c.loop-i-test.true, c.requires.2 h)
+base_at-requires c = λ h. omega (arith, c.loop-i-test.true, c.requires.2 h)
 
 pub add-r-requires : goal.add-r-requires
 add-r-requires c =

@@ -4,7 +4,7 @@ use lib.ListN.{length}
 use Rattle.lists.specs.Part.{only_if}
 use Rattle.lists.specs.Table.{tabulate}
 use Rattle.duplex_metrics.specs.Metrics.{capped, record_depth, record_depths}
-use Rattle.duplex_metrics.proofs.SoFar.{Reached}
+use Rattle.duplex_metrics.proofs.SoFar.{mark, Reached}
 use Rattle.duplex_metrics.proofs.running_over.Given as goal
 
 abbrev pub invariant-loop-i : goal.invariant-loop-i
