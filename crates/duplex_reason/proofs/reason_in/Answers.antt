@@ -15,6 +15,7 @@ module _ {kind : DuplexConsensus} {n : ℕ} (a b : Shown) (i : ℕ) (e : kind �
   inside : i < n → reason_at a b ≡ reason_in kind a b i
   unfolding reason_in
   inside h = rw (e, lt-ltb i n h)
+
   outside : n ≤ i → Outside ≡ reason_in kind a b i
   unfolding reason_in
   outside h = rw (e, le-ltb i n h)

@@ -26,7 +26,7 @@ returns c =
       outputs = record_passed number passed (rw (← c.common_length-n.ensures) (record {
         bases = put_all _ _ (plain_enough r) c.write_positions.ensures.bases_now;
         quals = put_all _ _ (plain_enough r) c.write_positions.ensures.quals_now;
-        ⟪place After-write_errors⟫ = put_all _ _ (errors_enough r) c.write_errors.ensures;
+        errors = put_all _ _ (errors_enough r) c.write_errors.ensures;
         a = record { marks = refl; unconverted = refl; converted = refl };
         b = record { marks = refl; unconverted = refl; converted = refl };
       }));
