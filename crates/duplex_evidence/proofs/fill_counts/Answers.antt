@@ -15,7 +15,7 @@ loop-i-preserved c =
     )
 
 pub loop-i-init : goal.loop-i-init
-loop-i-init c = let room = c.requires.1 in (begin_table _ room.0, begin_table _ room.1)
+loop-i-init c = let room = c.requires.places_in_bounds_2 in (begin_table _ room.0, begin_table _ room.1)
 
 pub bounds-unconverted_out-i : goal.bounds-unconverted_out-i
 bounds-unconverted_out-i c = fits c.loop-i.invariant.0 (omega arith)
@@ -30,4 +30,7 @@ pub shape_of-converted_out : goal.shape_of-converted_out
 shape_of-converted_out c = same c.loop-i.invariant.1
 
 pub returns : goal.returns
-returns c = (done c.loop-i.invariant.0 c.loop-i-test.false, done c.loop-i.invariant.1 c.loop-i-test.false)
+returns c = record {
+  unconverted_out_after = done c.loop-i.invariant.0 c.loop-i-test.false;
+  converted_out_after = done c.loop-i.invariant.1 c.loop-i-test.false;
+}

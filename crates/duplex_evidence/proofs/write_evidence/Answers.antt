@@ -17,7 +17,11 @@ pub fill_evidence-requires : goal.fill_evidence-requires
 fill_evidence-requires c =
     let all = (reached _ _ _ _ (sym c.evidence_short.ensures ∙ c.if-evidence_short.false)).1 in
     let few = at_most c.is_annotated.result _ c.evidence_places-places.ensures in
-    ((le_trans few all.0, le_trans few all.1.0), ((le_trans few all.1.1.0, le_trans few all.1.1.1.0), (le_trans few all.1.1.1.1.0, le_trans few all.1.1.1.1.1.0, le_trans few all.1.1.1.1.1.1.0)))
+    record {
+      places_in_bounds = (le_trans few all.0, le_trans few all.1.0);
+      places_in_bounds_2 = (le_trans few all.1.1.0, le_trans few all.1.1.1.0);
+      places_in_bounds_3 = (le_trans few all.1.1.1.1.0, le_trans few all.1.1.1.1.1.0, le_trans few all.1.1.1.1.1.1.0);
+    }
 
 pub returns : goal.returns
 unfolding kept_marks kept_unconverted kept_converted
