@@ -19,7 +19,11 @@ pub write_gated-requires : goal.write_gated-requires
 write_gated-requires c =
     let number = by_lengths _ _ _ c.lengths_of-strand.ensures c.single_refusal-number.ensures in
     let r = room _ _ _ number c.if-number-ne0.false in
-    rw (c.evidence_places-places.ensures, c.is_annotated.ensures) (r.marks, (r.unconverted, r.converted))
+    record {
+      places_in_bounds = rw (c.evidence_places-places.ensures, c.is_annotated.ensures) r.marks;
+      places_in_bounds_2 = rw (c.evidence_places-places.ensures, c.is_annotated.ensures) r.unconverted;
+      places_in_bounds_3 = rw (c.evidence_places-places.ensures, c.is_annotated.ensures) r.converted;
+    }
 
 pub returns : goal.returns
 returns c =
@@ -31,9 +35,9 @@ returns c =
     record {
       answered = answer_passed Refused _ number passed;
       outputs = record_passed number passed (record {
-        ⟪place After-copy_u8⟫ = c.copy_u8.ensures ∙ put_fitting _ _ r.bases;
-        ⟪place After-copy_u8-2⟫ = c.copy_u8-2.ensures ∙ put_fitting _ _ r.quals;
-        ⟪place After-copy_u16⟫ = c.copy_u16.ensures ∙ put_fitting _ _ r.errors;
+        bases = c.copy_u8.ensures ∙ put_fitting _ _ r.bases;
+        quals = c.copy_u8-2.ensures ∙ put_fitting _ _ r.quals;
+        errors = c.copy_u16.ensures ∙ put_fitting _ _ r.errors;
         a = gated_or_none _ _ (evidence_arrays a.marks.now a.unconverted.now a.converted.now) places c.write_gated.ensures;
         b = record { marks = put_none []; unconverted = put_none []; converted = put_none [] };
       });

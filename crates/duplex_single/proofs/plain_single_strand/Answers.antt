@@ -23,9 +23,9 @@ returns c =
     record {
       answered = answer_passed Refused _ number passed;
       outputs = record_passed number passed (record {
-        ⟪place After-copy_u8⟫ = c.copy_u8.ensures ∙ put_fitting _ _ r.bases;
-        ⟪place After-copy_u8-2⟫ = c.copy_u8-2.ensures ∙ put_fitting _ _ r.quals;
-        ⟪place After-copy_u16⟫ = c.copy_u16.ensures ∙ put_fitting _ _ r.errors;
+        bases = c.copy_u8.ensures ∙ put_fitting _ _ r.bases;
+        quals = c.copy_u8-2.ensures ∙ put_fitting _ _ r.quals;
+        errors = c.copy_u16.ensures ∙ put_fitting _ _ r.errors;
         a = record { marks = put_none []; unconverted = put_none []; converted = put_none [] };
         b = record { marks = put_none []; unconverted = put_none []; converted = put_none [] };
       });

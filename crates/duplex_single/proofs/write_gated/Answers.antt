@@ -7,7 +7,7 @@ use Rattle.duplex_single.proofs.write_gated.Goals as goal
 pub loop-i-init : goal.loop-i-init
 loop-i-init c =
     let pre = c.requires in
-    begin_evidence pre.0.1 pre.1.0.1 pre.1.1.1
+    begin_evidence pre.places_in_bounds.1 pre.places_in_bounds_2.1 pre.places_in_bounds_3.1
 
 pub loop-i-preserved : goal.loop-i-preserved
 loop-i-preserved c = next_evidence c.loop-i.invariant c.loop-i-test.true c.evidence_if-evidence.ensures
