@@ -15,7 +15,7 @@ pub returns-then-number-ne0 : goal.returns-then-number-ne0
 unfolding consensus_gate faults
 returns-then-number-ne0 c =
     c.gate_answer.ensures ∙ uncounted c.args.min_reads.now (let x = c.args in
-    (TooLong if too_long (x.positions ∷ length x.ab-depths.now ∷ length x.ba-depths.now ∷ [])) ∷ []) refl (in_order _ c.refuse_if-number.ensures) c.if-number-ne0.true _ _ _ _
+    (TooLong if too_long (x.positions ∷ length x.ab_depths.now ∷ length x.ba_depths.now ∷ [])) ∷ []) refl (in_order _ c.refuse_if-number.ensures) c.if-number-ne0.true _ _ _ _
 
 pub returns : goal.returns
 unfolding consensus_gate faults
@@ -23,4 +23,4 @@ returns c =
     c.gate_answer-2.ensures
     ∙ ap₂ (gate_answer c.args.min_reads.now c.refuse_if-number.result) c.largest_within-largest.ensures.0 c.largest_within-largest.ensures.1
     ∙ counted c.args.min_reads.now (let x = c.args in
-    (TooLong if too_long (x.positions ∷ length x.ab-depths.now ∷ length x.ba-depths.now ∷ [])) ∷ []) refl (in_order _ c.refuse_if-number.ensures) _ _
+    (TooLong if too_long (x.positions ∷ length x.ab_depths.now ∷ length x.ba_depths.now ∷ [])) ∷ []) refl (in_order _ c.refuse_if-number.ensures) _ _

@@ -1,5 +1,4 @@
 -- `duplex_gate::largest_within` meets its contract: after i turns it has the largest of the first i depths of either strand. Assumes nothing.
-use Prim.Native.Nat.{◌-◌}
 use native.Mathlib.Omega.{arith}
 use mathlib.Core.Path.{refl}
 use Rattle.duplex_gate.proofs.Within.{found_next, found_stay, found_all}
