@@ -3,8 +3,9 @@ use Rattle.line_output.proofs.Text.{then}
 use Rattle.line_format.specs.Line.{closing}
 use Rattle.line_format.proofs.write_closing.Goals as goal
 
-pub returns : goal.returns
+pub returns-clause-appended : goal.returns-clause-appended
 unfolding closing
-returns c =
-    let metrics = c.write_metrics-at.ensures in
-    (then metrics.0 c.write_text.ensures, metrics.1)
+returns-clause-appended c = then c.write_metrics-at.ensures.appended c.write_text.ensures
+
+pub returns-clause-metrics_len_bound : goal.returns-clause-metrics_len_bound
+returns-clause-metrics_len_bound c = c.write_metrics-at.ensures.m_len_bound

@@ -6,7 +6,9 @@ use Rattle.line_format.specs.Line.{refused_text}
 use Rattle.line_format.proofs.Line.{refused_most}
 use Rattle.line_format.proofs.write_refused.Goals as goal
 
-pub returns : goal.returns
+pub returns-clause-written : goal.returns-clause-written
 unfolding refused_text
-returns c =
-    ((then (then c.write_text-at.ensures c.write_number-at.ensures) c.write_text.ensures).written, refused_most _ (few_digits 2 c.args.number (omega arith)))
+returns-clause-written c = (then (then c.write_text-at.ensures c.write_number-at.ensures) c.write_text.ensures).written
+
+pub returns-clause-number_len_bound : goal.returns-clause-number_len_bound
+returns-clause-number_len_bound c = refused_most _ (few_digits 2 c.args.number (omega arith))

@@ -5,6 +5,9 @@ use Rattle.line_metrics.specs.MetricsText.{field}
 use Rattle.line_metrics.proofs.MetricsText.{field_most}
 use Rattle.line_metrics.proofs.write_field.Goals as goal
 
-pub returns : goal.returns
+pub returns-clause-appended : goal.returns-clause-appended
 unfolding field
-returns c = (then c.write_text-at.ensures c.write_number.ensures, field_most c.args.n (omega arith))
+returns-clause-appended c = then c.write_text-at.ensures c.write_number.ensures
+
+pub returns-clause-n_len_bound : goal.returns-clause-n_len_bound
+returns-clause-n_len_bound c = field_most c.args.n (omega arith)

@@ -4,10 +4,11 @@ use Rattle.line_metrics.specs.MetricsText.{figures_text}
 use Rattle.line_metrics.proofs.MetricsText.{figures_most}
 use Rattle.line_metrics.proofs.write_figures.Goals as goal
 
-pub returns : goal.returns
+pub returns-clause-appended : goal.returns-clause-appended
 unfolding figures_text
-returns c =
+returns-clause-appended c = then (then c.write_field-at.ensures.appended c.write_field-at-2.ensures.appended) c.write_rate_field.ensures
+
+pub returns-clause-rate_len_bound : goal.returns-clause-rate_len_bound
+returns-clause-rate_len_bound c =
     let a = c.args in
-    let largest = c.write_field-at.ensures in
-    let smallest = c.write_field-at-2.ensures in
-    (then (then largest.0 smallest.0) c.write_rate_field.ensures, figures_most a.largest a.smallest a.rate largest.1 smallest.1)
+    figures_most a.largest a.smallest a.rate c.write_field-at.ensures.n_len_bound c.write_field-at-2.ensures.n_len_bound

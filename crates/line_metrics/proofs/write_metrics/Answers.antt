@@ -4,11 +4,11 @@ use Rattle.line_metrics.specs.MetricsText.{metrics_text}
 use Rattle.line_metrics.proofs.MetricsText.{metrics_most}
 use Rattle.line_metrics.proofs.write_metrics.Goals as goal
 
-pub returns : goal.returns
+pub returns-clause-appended : goal.returns-clause-appended
 unfolding metrics_text
-returns c =
-    let a = c.write_figures-at.ensures in
-    let b = c.write_figures-at-2.ensures in
-    let both = c.write_figures-at-3.ensures in
-    let nc = c.write_field.ensures in
-    (then (then (then a.0 b.0) both.0) nc.0, metrics_most c.args.m a.1 b.1 both.1 nc.1)
+returns-clause-appended c =
+    then (then (then c.write_figures-at.ensures.appended c.write_figures-at-2.ensures.appended) c.write_figures-at-3.ensures.appended) c.write_field.ensures.appended
+
+pub returns-clause-m_len_bound : goal.returns-clause-m_len_bound
+returns-clause-m_len_bound c =
+    metrics_most c.args.m c.write_figures-at.ensures.rate_len_bound c.write_figures-at-2.ensures.rate_len_bound c.write_figures-at-3.ensures.rate_len_bound c.write_field.ensures.n_len_bound
