@@ -4,4 +4,4 @@ use Rattle.line_record.proofs.none_line.Goals as goal
 
 pub returns : goal.returns
 unfolding blank
-returns c = record { written = c.write_none-length.ensures.0; fits = c.write_none-length.ensures.1 }
+returns c = record { written = c.write_none-length.ensures.written; fits = c.write_none-length.ensures.none_text_len_bound }

@@ -4,4 +4,4 @@ use Rattle.line_record.proofs.refused_line.Goals as goal
 
 pub returns : goal.returns
 unfolding blank
-returns c = record { written = c.write_refused-length.ensures.0; fits = c.write_refused-length.ensures.1 }
+returns c = record { written = c.write_refused-length.ensures.written; fits = c.write_refused-length.ensures.number_len_bound }

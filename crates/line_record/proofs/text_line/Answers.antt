@@ -8,4 +8,4 @@ pub returns : goal.returns
 unfolding blank
 returns c =
     let a = c.args in
-    from_fronts (columns a.bases.now a.quals.now a.errors.now) a.kind a.positions a.kept a.metrics c.front_u8-bases.ensures c.front_u8-quals.ensures c.front_u16-errors.ensures c.write_record-length.ensures.0 c.write_record-length.ensures.1
+    from_fronts (columns a.bases.now a.quals.now a.errors.now) a.kind a.positions a.kept a.metrics c.front_u8-bases.ensures c.front_u8-quals.ensures c.front_u16-errors.ensures c.write_record-length.ensures.written c.write_record-length.ensures.metrics_len_bound
