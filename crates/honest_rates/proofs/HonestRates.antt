@@ -130,15 +130,15 @@ module _ (x : Input) (before after : List ℕ) (e : MetricsEntry (seen x) before
   place_word bE = ap (λ (l : List ℕ). in_place l bE) output_is ∙ word_at (record_words (in_bits made)) before 5 (omega arith) (small y (in_bits made) words_are bE)
   place_word cE = ap (λ (l : List ℕ). in_place l cE) output_is ∙ word_at (record_words (in_bits made)) before 8 (omega arith) (small y (in_bits made) words_are cE)
 
-  same_arrays : from_numbers y ≡ from_bytes x.a x.a_errors_is x.second x.b x.b_errors_is x.errors
+  same_arrays : from_numbers y ≡ from_bytes x.a x.a_errors x.second x.b x.b_errors x.errors
   unfolding only_if
-  same_arrays = ap₂ (λ (b be : List ℕ). measured (words16 x.a) (words16 x.a_errors_is) b be (words16 x.errors)) (go x.second x.b) (go x.second x.b_errors_is)
+  same_arrays = ap₂ (λ (b be : List ℕ). measured (words16 x.a) (words16 x.a_errors) b be (words16 x.errors)) (go x.second x.b) (go x.second x.b_errors)
     where
       go : (s : Bool) (l : List ℕ) → cond s (words16 (cond s l [])) [] ≡ cond s (words16 l) []
       go true l = refl
       go false l = refl
 
-  place_bits : (p : Rate) → in_place after p ≡ behind (from_bytes x.a x.a_errors_is x.second x.b x.b_errors_is x.errors) p
+  place_bits : (p : Rate) → in_place after p ≡ behind (from_bytes x.a x.a_errors x.second x.b x.b_errors x.errors) p
   place_bits p = place_word p ∙ word_bits y (in_bits made) words_are p ∙ ap (λ (m : Measured). behind m p) same_arrays
 
 -- ---- A reply

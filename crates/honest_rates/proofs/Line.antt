@@ -121,27 +121,27 @@ module _ (bytes : List ℕ) where
   unfolding molecule fields_of
   a_depths = ap words16 (span_value bytes 0x12)
 
-  a_errors_is : words16 a.errors ≡ words16 (value_of 0x13 fs)
+  a_errors : words16 a.errors ≡ words16 (value_of 0x13 fs)
   unfolding molecule fields_of
-  a_errors_is = ap words16 (span_value bytes 0x13)
+  a_errors = ap words16 (span_value bytes 0x13)
 
   b_depths : words16 b.depths ≡ words16 (value_of 0x22 fs)
   unfolding molecule fields_of
   b_depths = ap words16 (span_value bytes 0x22)
 
-  b_errors_is : words16 b.errors ≡ words16 (value_of 0x23 fs)
+  b_errors : words16 b.errors ≡ words16 (value_of 0x23 fs)
   unfolding molecule fields_of
-  b_errors_is = ap words16 (span_value bytes 0x23)
+  b_errors = ap words16 (span_value bytes 0x23)
 
   module _ (n : ℕ) (bases errors : List ℕ) (long : length (take n bases) ≡ n) where
     same_both : from_numbers (front_input n (input (words16 a.depths) (words16 a.errors) true (words16 b.depths) (words16 b.errors) bases errors)) ≡ from_molecule bytes both (length (take n bases)) (take n errors)
-    same_both = rw (long, a_depths, a_errors_is, b_depths, b_errors_is)
+    same_both = rw (long, a_depths, a_errors, b_depths, b_errors)
 
     same_ab : from_numbers (front_input n (input (words16 a.depths) (words16 a.errors) false [] [] bases errors)) ≡ from_molecule bytes ab (length (take n bases)) (take n errors)
-    same_ab = rw (long, a_depths, a_errors_is)
+    same_ab = rw (long, a_depths, a_errors)
 
     same_ba : from_numbers (front_input n (input (words16 b.depths) (words16 b.errors) false [] [] bases errors)) ≡ from_molecule bytes ba (length (take n bases)) (take n errors)
-    same_ba = rw (long, b_depths, b_errors_is)
+    same_ba = rw (long, b_depths, b_errors)
 
   abbrev ts : List ℕ
   ts = thresholds_of bytes m

@@ -55,13 +55,13 @@ pub data Returned : Type 0 where
   in_bytes : (given : Input) (before after : List ℕ) → MetricsEntry (seen given) before after 0 → Returned
   -- `gedrashiw_metrics`, accepted
   for_c :
-      (a a_errors_is : List ℕ) (second : ℕ) (b b_errors_is bases errors before after : List ℕ)
-      → MetricsEntry (seen (input a a_errors_is (yes second) b b_errors_is bases errors)) before after 0
+      (a a_errors : List ℕ) (second : ℕ) (b b_errors bases errors before after : List ℕ)
+      → MetricsEntry (seen (input a a_errors (yes second) b b_errors bases errors)) before after 0
       → Returned
   -- `gedrashiw_duplex_metrics`, accepted
   in_reply :
-      (a a_errors_is : List ℕ) (second : ℕ) (b b_errors_is bases errors : List ℕ) (r : MetricsReply)
-      → r ≡ metrics_reply (metrics_words (metrics_of (input a a_errors_is (yes second) b b_errors_is bases errors)))
+      (a a_errors : List ℕ) (second : ℕ) (b b_errors bases errors : List ℕ) (r : MetricsReply)
+      → r ≡ metrics_reply (metrics_words (metrics_of (input a a_errors (yes second) b b_errors bases errors)))
       → r.refused ≡ 0
       → Returned
   -- `duplex_line`, all that duplexline prints, where the line is a record's
@@ -97,21 +97,21 @@ bits (printed bytes line own e f) cE = hexadecimal.value_of (column 13 (text lin
 -- The depths and errors of the first strand and of the second, and the record's own errors, position by position.
 pub record Measured : Type 0 where
   pub a : List ℕ
-  pub a_errors_is : List ℕ
+  pub a_errors : List ℕ
   pub b : List ℕ
-  pub b_errors_is : List ℕ
+  pub b_errors : List ℕ
   pub errors : List ℕ
 
 abbrev pub measured : List ℕ → List ℕ → List ℕ → List ℕ → List ℕ → Measured
-measured a a_errors_is b b_errors_is errors = record { a = a; a_errors_is = a_errors_is; b = b; b_errors_is = b_errors_is; errors = errors }
+measured a a_errors b b_errors errors = record { a = a; a_errors = a_errors; b = b; b_errors = b_errors; errors = errors }
 
 -- Those of a metrics call that was given numbers, or their bytes. An absent second strand has no positions.
 abbrev pub from_numbers : Input → Measured
-from_numbers x = measured x.a x.a_errors_is (cond x.second x.b []) (cond x.second x.b_errors_is []) x.errors
+from_numbers x = measured x.a x.a_errors (cond x.second x.b []) (cond x.second x.b_errors []) x.errors
 
 abbrev pub from_bytes : List ℕ → List ℕ → Bool → List ℕ → List ℕ → List ℕ → Measured
-from_bytes a a_errors_is second b b_errors_is errors =
-    measured (words16 a) (words16 a_errors_is) (cond second (words16 b) []) (cond second (words16 b_errors_is) []) (words16 errors)
+from_bytes a a_errors second b b_errors errors =
+    measured (words16 a) (words16 a_errors) (cond second (words16 b) []) (cond second (words16 b_errors) []) (words16 errors)
 
 -- The numbers in the field of a molecule with a tag, as far as a record of n positions goes.
 abbrev pub field : List ℕ → ℕ → ℕ → List ℕ
@@ -127,7 +127,7 @@ from_molecule bytes both n errors = measured (field bytes 0x12 n) (field bytes 0
 abbrev pub over : Returned → Measured
 over (floats given r e) = from_numbers given
 over (in_bits_lem given r e) = from_numbers given
-over (in_bytes given before after e) = from_bytes given.a given.a_errors_is given.second given.b given.b_errors_is given.errors
+over (in_bytes given before after e) = from_bytes given.a given.a_errors given.second given.b given.b_errors given.errors
 over (for_c a ae second b be bases errors before after e) = from_bytes a ae (yes second) b be errors
 over (in_reply a ae second b be bases errors r e f) = from_numbers (input a ae (yes second) b be bases errors)
 over (printed bytes line own e f) = from_molecule bytes own (length (column 2 (text line))) (numbers_in (column 4 (text line)))
@@ -146,8 +146,8 @@ both_capped positions a b = total (tabulate positions (λ i. cap (get_or a i 0) 
 
 -- The sums behind a rate.
 abbrev pub errors_of : Measured → Rate → ℕ
-errors_of m aE = capped m.a_errors_is
-errors_of m bE = capped m.b_errors_is
+errors_of m aE = capped m.a_errors
+errors_of m bE = capped m.b_errors
 errors_of m cE = capped m.errors
 
 abbrev pub depths_of : Measured → Rate → ℕ
