@@ -83,15 +83,15 @@ either : (second : Bool) (n : ℕ) → (second ≡ false → n ≡ 0) → (secon
 either true n none some = some refl
 either false n none some = omega (arith, none refl)
 
-pub narrow : (x : Input) → metrics_refused (decoded x) ≡ 0 → (x.second ≡ false → length x.b ≡ 0) → (x.second ≡ false → length x.b_errors_is ≡ 0) → Narrow x
+pub narrow : (x : Input) → metrics_refused (decoded x) ≡ 0 → (x.second ≡ false → length x.b ≡ 0) → (x.second ≡ false → length x.b_errors ≡ 0) → Narrow x
 unfolding halves
 narrow x z b be =
     let s : Few _ = rw decoded_lengths at (few (lengths (decoded x)) refl z) in
     record {
       a = s.a;
-      a_errors_is = s.a_errors_is;
+      a_errors = s.a_errors;
       b = either x.second (length x.b) b (λ h. (s.b h).0);
-      b_errors_is = either x.second (length x.b_errors_is) be (λ h. (s.b h).1);
+      b_errors = either x.second (length x.b_errors) be (λ h. (s.b h).1);
       errors = s.errors;
     }
 

@@ -14,15 +14,15 @@ use Rattle.metrics_bits.specs.declared.MetricsWords.TheVariants.{Refused, Of}
 
 -- The arrays as bytes, of which an absent second strand's are not looked at.
 abbrev pub seen : Input → Input
-seen x = input x.a x.a_errors_is x.second (only_if x.second x.b) (only_if x.second x.b_errors_is) x.bases x.errors
+seen x = input x.a x.a_errors x.second (only_if x.second x.b) (only_if x.second x.b_errors) x.bases x.errors
 
 -- The numbers that they stand for.
 abbrev pub decoded : Input → Input
-decoded x = input (words16 x.a) (words16 x.a_errors_is) x.second (words16 x.b) (words16 x.b_errors_is) x.bases (words16 x.errors)
+decoded x = input (words16 x.a) (words16 x.a_errors) x.second (words16 x.b) (words16 x.b_errors) x.bases (words16 x.errors)
 
 -- Row 13: a byte count does not fit the width. A base is one byte, so theirs fits.
 unfoldable pub odd_counts : MetricsLengths → Bool
-odd_counts n = any odd_count (n.a ∷ n.a_errors ∷ n.b ∷ n.b_errors ∷ n.errors ∷ [])
+odd_counts n = any odd_count (n.a ∷ n.aErrors ∷ n.b ∷ n.bErrors ∷ n.errors ∷ [])
 
 -- Row 13, then what refuses the library's call, then row 12 for 40 bytes of output.
 unfoldable pub entry_faults : Bool → MetricsLengths → ℕ → List Fault
@@ -62,10 +62,10 @@ pub record MetricsEntry (x : Input) (before after_call : List ℕ) (r : ℕ) : T
 unfoldable pub halves : MetricsLengths → MetricsLengths
 halves n = record {
   a = n.a / 2;
-  a_errors = n.a_errors / 2;
+  aErrors = n.aErrors / 2;
   second = n.second;
   b = n.b / 2;
-  b_errors = n.b_errors / 2;
+  bErrors = n.bErrors / 2;
   bases = n.bases;
   errors = n.errors / 2;
 }
@@ -73,7 +73,7 @@ halves n = record {
 -- Bytes of at most 1,024 numbers an array.
 pub record Narrow (x : Input) : Type 0 where
   pub a : length x.a / 2 ≤ 1024
-  pub a_errors_is : length x.a_errors_is / 2 ≤ 1024
+  pub a_errors : length x.a_errors / 2 ≤ 1024
   pub b : length x.b / 2 ≤ 1024
-  pub b_errors_is : length x.b_errors_is / 2 ≤ 1024
+  pub b_errors : length x.b_errors / 2 ≤ 1024
   pub errors : length x.errors / 2 ≤ 1024

@@ -3,7 +3,6 @@ use mathlib.Core.Path.{◌≡◌, ap, ◌∙◌}
 use mathlib.Core.Bool.{Bool}
 use mathlib.Core.List.{List}
 use Prim.Native.Nat.{ℕ, ◌-◌, ◌/◌, ◌≤◌}
-use borrow.Author.Rules.{zero≤}
 use native.Mathlib.Nat.{sub-zero}
 use native.Mathlib.Omega.{arith}
 use lib.ListN.{length, take, replicate}
@@ -42,37 +41,7 @@ returns c =
     ∙ ap (λ (x : Input). metrics_words (metrics_of x))
     (same_input
     (front _ pre.a c.read_u16s.ensures)
-    (front _ pre.a_errors_is c.read_u16s-2.ensures)
+    (front _ pre.a_errors c.read_u16s-2.ensures)
     (front _ pre.b c.read_u16s-3.ensures)
-    (front _ pre.b_errors_is c.read_u16s-4.ensures)
+    (front _ pre.b_errors c.read_u16s-4.ensures)
     (front _ pre.errors c.read_u16s-5.ensures))
-
-pub slice_bounds-metrics_bits-count : goal.slice_bounds-metrics_bits-count
-slice_bounds-metrics_bits-count c = zero≤
-
-pub slice_bounds-metrics_bits-start : goal.slice_bounds-metrics_bits-start
-slice_bounds-metrics_bits-start c = zero≤
-
-pub slice_bounds-metrics_bits-count-2 : goal.slice_bounds-metrics_bits-count-2
-slice_bounds-metrics_bits-count-2 c = zero≤
-
-pub slice_bounds-metrics_bits-start-2 : goal.slice_bounds-metrics_bits-start-2
-slice_bounds-metrics_bits-start-2 c = zero≤
-
-pub slice_bounds-metrics_bits-count-3 : goal.slice_bounds-metrics_bits-count-3
-slice_bounds-metrics_bits-count-3 c = zero≤
-
-pub slice_bounds-metrics_bits-start-3 : goal.slice_bounds-metrics_bits-start-3
-slice_bounds-metrics_bits-start-3 c = zero≤
-
-pub slice_bounds-metrics_bits-count-4 : goal.slice_bounds-metrics_bits-count-4
-slice_bounds-metrics_bits-count-4 c = zero≤
-
-pub slice_bounds-metrics_bits-start-4 : goal.slice_bounds-metrics_bits-start-4
-slice_bounds-metrics_bits-start-4 c = zero≤
-
-pub slice_bounds-metrics_bits-count-5 : goal.slice_bounds-metrics_bits-count-5
-slice_bounds-metrics_bits-count-5 c = zero≤
-
-pub slice_bounds-metrics_bits-start-5 : goal.slice_bounds-metrics_bits-start-5
-slice_bounds-metrics_bits-start-5 c = zero≤
