@@ -171,10 +171,10 @@ text_of v a b listed run = unless (refused (words32 v)) (refused_text (refused (
 
 module _ (bytes : List ℕ) (fs : List Field) (m : Molecule) (parts : PartsAre bytes fs m) where
   a_is : strand_in bytes m.a ≡ strand_in_lem 0x10 fs
-  a_is = rw (parts.a_bases.there, parts.a_annotation.there, parts.a_bases.value, parts.a_quals.value, parts.a_depths.value, parts.a_errors_is.value, parts.a_annotation.value)
+  a_is = rw (parts.a_bases.there, parts.a_annotation.there, parts.a_bases.value, parts.a_quals.value, parts.a_depths.value, parts.a_errors.value, parts.a_annotation.value)
 
   b_is : strand_in bytes m.b ≡ strand_in_lem 0x20 fs
-  b_is = rw (parts.b_bases.there, parts.b_annotation.there, parts.b_bases.value, parts.b_quals.value, parts.b_depths.value, parts.b_errors_is.value, parts.b_annotation.value)
+  b_is = rw (parts.b_bases.there, parts.b_annotation.there, parts.b_bases.value, parts.b_quals.value, parts.b_depths.value, parts.b_errors.value, parts.b_annotation.value)
 
   text_is : molecule_text bytes m ≡ text_of (value_of 0x01 fs) (strand_in_lem 0x10 fs) (strand_in_lem 0x20 fs) (has 0x2f fs) (encoded (with_tag 0x30 fs))
   unfolding molecule_text read_text

@@ -54,12 +54,12 @@ pub record PartsAre (bytes : List ℕ) (fs : List Field) (m : Molecule) : Type 0
   pub a_bases : PartIs bytes fs 0x10 m.a.bases
   pub a_quals : PartIs bytes fs 0x11 m.a.quals
   pub a_depths : PartIs bytes fs 0x12 m.a.depths
-  pub a_errors_is : PartIs bytes fs 0x13 m.a.errors
+  pub a_errors : PartIs bytes fs 0x13 m.a.errors
   pub a_annotation : PartIs bytes fs 0x14 m.a.annotation
   pub b_bases : PartIs bytes fs 0x20 m.b.bases
   pub b_quals : PartIs bytes fs 0x21 m.b.quals
   pub b_depths : PartIs bytes fs 0x22 m.b.depths
-  pub b_errors_is : PartIs bytes fs 0x23 m.b.errors
+  pub b_errors : PartIs bytes fs 0x23 m.b.errors
   pub b_annotation : PartIs bytes fs 0x24 m.b.annotation
   pub listed : m.reads.present ≡ has 0x2f fs
   pub reads : value_at bytes m.reads ≡ encoded (with_tag 0x30 fs)

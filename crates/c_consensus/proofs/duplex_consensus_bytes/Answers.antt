@@ -16,8 +16,8 @@ returns c =
     let none = rw (c.is_annotated.ensures, c.is_annotated-2.ensures) at c.if-is_annotated.false in
     let (not_a, not_b) = neither (is_annotated g.a_annotation) (is_annotated g.b_annotation) none in
     by_strands
-    (plain_seen g.a-present g.a_annotation g.a_bases.now g.a_quals.now g.a_depths.now g.a_errors_is.now g.a-evidence.now not_a)
-    (plain_seen g.b-present g.b_annotation g.b_bases.now g.b_quals.now g.b_depths.now g.b_errors_is.now g.b-evidence.now not_b)
+    (plain_seen g.a-present g.a_annotation g.a_bases.now g.a_quals.now g.a_depths.now g.a_errors.now g.a-evidence.now not_a)
+    (plain_seen g.b-present g.b_annotation g.b_bases.now g.b_quals.now g.b_depths.now g.b_errors.now g.b-evidence.now not_b)
     (from_arrays _ _ _ _ _ _ plain_zeros _ _ (plain_alone _ _ _ _ refl refl) c.plain_consensus_of_bytes-made.ensures refl refl c.write_record.ensures)
 
 pub slice_bounds-no_marks-count : goal.slice_bounds-no_marks-count

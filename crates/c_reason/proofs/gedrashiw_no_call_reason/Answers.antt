@@ -9,36 +9,36 @@ use Rattle.c_reason.proofs.gedrashiw_no_call_reason.Goals as goal
 pub returns-then-number-ne0 : goal.returns-then-number-ne0
 returns-then-number-ne0 c = turned_down (let g = c.args in
     tested (let g = c.args in
-    strand_bytes (yes g.a-present) (annotation_of (told g.a-present g.a-annotated) g.a-pattern) g.a_bases.now g.a_quals.now g.a_depths.now g.a_errors_is.now g.a-evidence.now) (let g = c.args in
-    strand_bytes (yes g.b-present) (annotation_of (told g.b-present g.b-annotated) g.b-pattern) g.b_bases.now g.b_quals.now g.b_depths.now g.b_errors_is.now g.b-evidence.now)
+    strand_bytes (yes g.a-present) (annotation_of (told g.a-present g.a-annotated) g.a-pattern) g.a_bases.now g.a_quals.now g.a_depths.now g.a_errors.now g.a-evidence.now) (let g = c.args in
+    strand_bytes (yes g.b-present) (annotation_of (told g.b-present g.b-annotated) g.b-pattern) g.b_bases.now g.b_quals.now g.b_depths.now g.b_errors.now g.b-evidence.now)
     c.wrong_pattern.ensures
     c.wrong_pattern-2.ensures
-    (of_counts (yes g.a-present) g.a_bases.now g.a_quals.now g.a_depths.now g.a_errors_is.now g.a-evidence.now c.annotation_of-a_annotation.ensures c.counts_seen-a.ensures)
-    (of_counts (yes g.b-present) g.b_bases.now g.b_quals.now g.b_depths.now g.b_errors_is.now g.b-evidence.now c.annotation_of-b_annotation.ensures c.counts_seen-b.ensures)
+    (of_counts (yes g.a-present) g.a_bases.now g.a_quals.now g.a_depths.now g.a_errors.now g.a-evidence.now c.annotation_of-a_annotation.ensures c.counts_seen-a.ensures)
+    (of_counts (yes g.b-present) g.b_bases.now g.b_quals.now g.b_depths.now g.b_errors.now g.b-evidence.now c.annotation_of-b_annotation.ensures c.counts_seen-b.ensures)
     c.early_refusal-number.ensures) _ c.if-number-ne0.true c.reason_for.ensures
 
 pub kind_of-kind-requires : goal.kind_of-kind-requires
 kind_of-kind-requires c =
     few_depths (let g = c.args in
     tested (let g = c.args in
-    strand_bytes (yes g.a-present) (annotation_of (told g.a-present g.a-annotated) g.a-pattern) g.a_bases.now g.a_quals.now g.a_depths.now g.a_errors_is.now g.a-evidence.now) (let g = c.args in
-    strand_bytes (yes g.b-present) (annotation_of (told g.b-present g.b-annotated) g.b-pattern) g.b_bases.now g.b_quals.now g.b_depths.now g.b_errors_is.now g.b-evidence.now)
+    strand_bytes (yes g.a-present) (annotation_of (told g.a-present g.a-annotated) g.a-pattern) g.a_bases.now g.a_quals.now g.a_depths.now g.a_errors.now g.a-evidence.now) (let g = c.args in
+    strand_bytes (yes g.b-present) (annotation_of (told g.b-present g.b-annotated) g.b-pattern) g.b_bases.now g.b_quals.now g.b_depths.now g.b_errors.now g.b-evidence.now)
     c.wrong_pattern.ensures
     c.wrong_pattern-2.ensures
-    (of_counts (yes g.a-present) g.a_bases.now g.a_quals.now g.a_depths.now g.a_errors_is.now g.a-evidence.now c.annotation_of-a_annotation.ensures c.counts_seen-a.ensures)
-    (of_counts (yes g.b-present) g.b_bases.now g.b_quals.now g.b_depths.now g.b_errors_is.now g.b-evidence.now c.annotation_of-b_annotation.ensures c.counts_seen-b.ensures)
+    (of_counts (yes g.a-present) g.a_bases.now g.a_quals.now g.a_depths.now g.a_errors.now g.a-evidence.now c.annotation_of-a_annotation.ensures c.counts_seen-a.ensures)
+    (of_counts (yes g.b-present) g.b_bases.now g.b_quals.now g.b_depths.now g.b_errors.now g.b-evidence.now c.annotation_of-b_annotation.ensures c.counts_seen-b.ensures)
     c.early_refusal-number.ensures) c.if-number-ne0.false c.given_in.ensures c.given_in-2.ensures
 
 pub returns : goal.returns
 returns c =
     passed_on (let g = c.args in
     tested (let g = c.args in
-    strand_bytes (yes g.a-present) (annotation_of (told g.a-present g.a-annotated) g.a-pattern) g.a_bases.now g.a_quals.now g.a_depths.now g.a_errors_is.now g.a-evidence.now) (let g = c.args in
-    strand_bytes (yes g.b-present) (annotation_of (told g.b-present g.b-annotated) g.b-pattern) g.b_bases.now g.b_quals.now g.b_depths.now g.b_errors_is.now g.b-evidence.now)
+    strand_bytes (yes g.a-present) (annotation_of (told g.a-present g.a-annotated) g.a-pattern) g.a_bases.now g.a_quals.now g.a_depths.now g.a_errors.now g.a-evidence.now) (let g = c.args in
+    strand_bytes (yes g.b-present) (annotation_of (told g.b-present g.b-annotated) g.b-pattern) g.b_bases.now g.b_quals.now g.b_depths.now g.b_errors.now g.b-evidence.now)
     c.wrong_pattern.ensures
     c.wrong_pattern-2.ensures
-    (of_counts (yes g.a-present) g.a_bases.now g.a_quals.now g.a_depths.now g.a_errors_is.now g.a-evidence.now c.annotation_of-a_annotation.ensures c.counts_seen-a.ensures)
-    (of_counts (yes g.b-present) g.b_bases.now g.b_quals.now g.b_depths.now g.b_errors_is.now g.b-evidence.now c.annotation_of-b_annotation.ensures c.counts_seen-b.ensures)
+    (of_counts (yes g.a-present) g.a_bases.now g.a_quals.now g.a_depths.now g.a_errors.now g.a-evidence.now c.annotation_of-a_annotation.ensures c.counts_seen-a.ensures)
+    (of_counts (yes g.b-present) g.b_bases.now g.b_quals.now g.b_depths.now g.b_errors.now g.b-evidence.now c.annotation_of-b_annotation.ensures c.counts_seen-b.ensures)
     c.early_refusal-number.ensures) _ c.if-number-ne0.false
     c.given_in.ensures
     c.given_in-2.ensures

@@ -10,16 +10,16 @@ pub returns-then-number-ne0 : goal.returns-then-number-ne0
 returns-then-number-ne0 c =
     let g = c.args in
     turned_down
-    (strand_bytes g.a-present g.a_annotation g.a_bases.now g.a_quals.now g.a_depths.now g.a_errors_is.now g.a-evidence.now)
-    (strand_bytes g.b-present g.b_annotation g.b_bases.now g.b_quals.now g.b_depths.now g.b_errors_is.now g.b-evidence.now)
+    (strand_bytes g.a-present g.a_annotation g.a_bases.now g.a_quals.now g.a_depths.now g.a_errors.now g.a-evidence.now)
+    (strand_bytes g.b-present g.b_annotation g.b_bases.now g.b_quals.now g.b_depths.now g.b_errors.now g.b-evidence.now)
     g.listed g.run.now _ c.count_listed-reads.ensures.broken c.early_refusal-number.ensures c.if-number-ne0.true
 
 pub returns : goal.returns
 returns c =
     let g = c.args in
     passed_on
-    (strand_bytes g.a-present g.a_annotation g.a_bases.now g.a_quals.now g.a_depths.now g.a_errors_is.now g.a-evidence.now)
-    (strand_bytes g.b-present g.b_annotation g.b_bases.now g.b_quals.now g.b_depths.now g.b_errors_is.now g.b-evidence.now)
+    (strand_bytes g.a-present g.a_annotation g.a_bases.now g.a_quals.now g.a_depths.now g.a_errors.now g.a-evidence.now)
+    (strand_bytes g.b-present g.b_annotation g.b_bases.now g.b_quals.now g.b_depths.now g.b_errors.now g.b-evidence.now)
     g.listed g.run.now _ c.count_listed-reads.ensures.broken c.early_refusal-number.ensures c.if-number-ne0.false
     (read_within c.read_strand-a.ensures (room 1024) _ _ _ _)
     (read_within c.read_strand-b.ensures (room 1024) _ _ _ _)
