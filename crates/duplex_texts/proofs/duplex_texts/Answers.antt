@@ -16,42 +16,59 @@ use Rattle.duplex_texts.proofs.duplex_texts.Goals as goal
 pub returns-then-number-ne0 : goal.returns-then-number-ne0
 returns-then-number-ne0 c =
     let a = c.args in
-    let number = refused_given a.mode a.bases.now (strand c.args.a_annotation c.args.a_marks.now c.args.a_unconverted.now c.args.a_converted.now) (strand c.args.b_annotation c.args.b_marks.now c.args.b_unconverted.now c.args.b_converted.now) (let a = c.args in
-    text_arrays a.seq-out.now a.a-mm-out.now a.b-mm-out.now a.mm-out.now a.ml-out.now) c.given_refusal-number.ensures c.if-number-ne0.true in
-    record { answered = answer_refused Refused _ number c.if-number-ne0.true; (let a = =.args in
-    text_arrays a.seq-out.now a.a-mm-out.now a.b-mm-out.now a.mm-out.now a.ml-out.now) leaves_refused number c.if-number-ne0.true }
+    let first = strand a.a_annotation a.a_marks.now a.a_unconverted.now a.a_converted.now in
+    let second = strand a.b_annotation a.b_marks.now a.b_unconverted.now a.b_converted.now in
+    let outputs = text_arrays a.seq_out.now a.a_mm_out.now a.b_mm_out.now a.mm_out.now a.ml_out.now in
+    let number = refused_given a.mode a.bases.now first second outputs c.given_refusal-number.ensures c.if-number-ne0.true in
+    record { answered = answer_refused Refused _ number c.if-number-ne0.true; outputs = leaves_refused number c.if-number-ne0.true }
 
 pub make_texts-texts-requires : goal.make_texts-texts-requires
 make_texts-texts-requires c =
-    let both = (as_long (length c.args.bases.now) (strand c.args.a_annotation c.args.a_marks.now c.args.a_unconverted.now c.args.a_converted.now) (strand c.args.b_annotation c.args.b_marks.now c.args.b_unconverted.now c.args.b_converted.now) c.given_refusal-number.ensures c.if-number-ne0.false) in
-    (both.0, (both.1, omega arith))
+    let a = c.args in
+    let first = strand a.a_annotation a.a_marks.now a.a_unconverted.now a.a_converted.now in
+    let second = strand a.b_annotation a.b_marks.now a.b_unconverted.now a.b_converted.now in
+    let both = as_long (length a.bases.now) first second c.given_refusal-number.ensures c.if-number-ne0.false in
+    record { as_long = both.0; as_long_2 = both.1; in_bounds = omega arith }
 
 pub needed_for-needed-requires : goal.needed_for-needed-requires
-needed_for-needed-requires c = few_bytes c.make_texts-texts.ensures (as_long (length c.args.bases.now) (strand c.args.a_annotation c.args.a_marks.now c.args.a_unconverted.now c.args.a_converted.now) (strand c.args.b_annotation c.args.b_marks.now c.args.b_unconverted.now c.args.b_converted.now) c.given_refusal-number.ensures c.if-number-ne0.false).0.few
+needed_for-needed-requires c =
+    let a = c.args in
+    let first = strand a.a_annotation a.a_marks.now a.a_unconverted.now a.a_converted.now in
+    let second = strand a.b_annotation a.b_marks.now a.b_unconverted.now a.b_converted.now in
+    few_bytes c.make_texts-texts.ensures (as_long (length a.bases.now) first second c.given_refusal-number.ensures c.if-number-ne0.false).0.few
 
 pub returns-then-number-ne0-2 : goal.returns-then-number-ne0-2
 returns-then-number-ne0-2 c =
-    let number = (let a = c.args in
-    refused_room a.mode a.bases.now (strand c.args.a_annotation c.args.a_marks.now c.args.a_unconverted.now c.args.a_converted.now) (strand c.args.b_annotation c.args.b_marks.now c.args.b_unconverted.now c.args.b_converted.now) (let a = c.args in
-    text_arrays a.seq-out.now a.a-mm-out.now a.b-mm-out.now a.mm-out.now a.ml-out.now) c.given_refusal-number.ensures c.if-number-ne0.left (rw (c.needed_for-needed.ensures ∙ needed c.make_texts-texts.ensures) at c.room_refusal-number.ensures)) in
-    record { answered = answer_refused Refused _ number c.if-number-ne0-2.true; (let a = =.args in
-    text_arrays a.seq-out.now a.a-mm-out.now a.b-mm-out.now a.mm-out.now a.ml-out.now) leaves_refused number c.if-number-ne0-2.true }
+    let a = c.args in
+    let first = strand a.a_annotation a.a_marks.now a.a_unconverted.now a.a_converted.now in
+    let second = strand a.b_annotation a.b_marks.now a.b_unconverted.now a.b_converted.now in
+    let outputs = text_arrays a.seq_out.now a.a_mm_out.now a.b_mm_out.now a.mm_out.now a.ml_out.now in
+    let number = refused_room a.mode a.bases.now first second outputs c.given_refusal-number.ensures c.if-number-ne0.false (rw (c.needed_for-needed.ensures ∙ needed c.make_texts-texts.ensures) at c.room_refusal-number.ensures) in
+    record { answered = answer_refused Refused _ number c.if-number-ne0-2.true; outputs = leaves_refused number c.if-number-ne0-2.true }
 
 pub write_texts-requires : goal.write_texts-requires
 write_texts-requires c =
-    let r = (enough_room (needed_for (length c.args.bases.now) c.make_texts-texts.result) (text_lengths (let a = c.args in
-    text_arrays a.seq-out.now a.a-mm-out.now a.b-mm-out.now a.mm-out.now a.ml-out.now)) (rw c.needed_for-needed.ensures at c.room_refusal-number.ensures) c.if-number-ne0-2.false) in
-    (few_bytes c.make_texts-texts.ensures (as_long (length c.args.bases.now) (strand c.args.a_annotation c.args.a_marks.now c.args.a_unconverted.now c.args.a_converted.now) (strand c.args.b_annotation c.args.b_marks.now c.args.b_unconverted.now c.args.b_converted.now) c.given_refusal-number.ensures c.if-number-ne0.false).0.few, (r.mm, r.ml))
+    let a = c.args in
+    let first = strand a.a_annotation a.a_marks.now a.a_unconverted.now a.a_converted.now in
+    let second = strand a.b_annotation a.b_marks.now a.b_unconverted.now a.b_converted.now in
+    let outputs = text_arrays a.seq_out.now a.a_mm_out.now a.b_mm_out.now a.mm_out.now a.ml_out.now in
+    let r = enough_room (needed_for (length a.bases.now) c.make_texts-texts.result) (text_lengths outputs) (rw c.needed_for-needed.ensures at c.room_refusal-number.ensures) c.if-number-ne0-2.false in
+    record {
+      b_mm_bound = few_bytes c.make_texts-texts.ensures (as_long (length a.bases.now) first second c.given_refusal-number.ensures c.if-number-ne0.false).0.few;
+      b_mm_in_bounds = (r.mm, r.ml);
+    }
 
 pub returns : goal.returns
 returns c =
-    let number = (let a = c.args in
-    refused_room a.mode a.bases.now (strand c.args.a_annotation c.args.a_marks.now c.args.a_unconverted.now c.args.a_converted.now) (strand c.args.b_annotation c.args.b_marks.now c.args.b_unconverted.now c.args.b_converted.now) (let a = c.args in
-    text_arrays a.seq-out.now a.a-mm-out.now a.b-mm-out.now a.mm-out.now a.ml-out.now) c.given_refusal-number.ensures c.if-number-ne0.left (rw (c.needed_for-needed.ensures ∙ needed c.make_texts-texts.ensures) at c.room_refusal-number.ensures)) in
-    let zero = c.if-number-ne0-2.left in
+    let a = c.args in
+    let first = strand a.a_annotation a.a_marks.now a.a_unconverted.now a.a_converted.now in
+    let second = strand a.b_annotation a.b_marks.now a.b_unconverted.now a.b_converted.now in
+    let outputs = text_arrays a.seq_out.now a.a_mm_out.now a.b_mm_out.now a.mm_out.now a.ml_out.now in
+    let lengths = c.needed_for-needed.ensures ∙ needed c.make_texts-texts.ensures in
+    let number = refused_room a.mode a.bases.now first second outputs c.given_refusal-number.ensures c.if-number-ne0.false (rw lengths at c.room_refusal-number.ensures) in
+    let zero = c.if-number-ne0-2.false in
+    let room = enough_room (needed_for (length a.bases.now) c.make_texts-texts.result) (text_lengths outputs) (rw c.needed_for-needed.ensures at c.room_refusal-number.ensures) zero in
     record {
-      answered = ap written (c.needed_for-needed.ensures ∙ needed c.make_texts-texts.ensures) ∙ answer_passed Refused _ number zero;
-      (let a = =.args in
-    text_arrays a.seq-out.now a.a-mm-out.now a.b-mm-out.now a.mm-out.now a.ml-out.now) leaves_passed number zero (all_put c.make_texts-texts.ensures c.is_second_first.ensures (enough_room (needed_for (length c.args.bases.now) c.make_texts-texts.result) (text_lengths (let a = c.args in
-    text_arrays a.seq-out.now a.a-mm-out.now a.b-mm-out.now a.mm-out.now a.ml-out.now)) (rw c.needed_for-needed.ensures at c.room_refusal-number.ensures) c.if-number-ne0-2.false) c.write_texts.ensures);
+      answered = ap written lengths ∙ answer_passed Refused _ number zero;
+      outputs = leaves_passed number zero (all_put c.make_texts-texts.ensures c.is_second_first.ensures room c.write_texts.ensures);
     }

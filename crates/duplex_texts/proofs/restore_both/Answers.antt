@@ -13,15 +13,15 @@ use Rattle.duplex_texts.proofs.restore_both.Goals as goal
 pub returns-in_default : goal.returns-in_default
 unfolding restored_seq
 returns-in_default c = (let a = c.args in
-    written _ _ c.methylation_strand_bases.ensures.1 (bases_fit a.a_annotation a.bases.now a.a-marks.now a.seq.now c.requires.0.0 c.requires.1.0 c.requires.0.1)) ∙ put_equal _ (strand_absent _ _ c.in_default.is)
+    written _ _ c.methylation_strand_bases.ensures.out_after (bases_fit a.a_annotation a.bases.now a.a_marks.now a.seq.now c.requires.bases_len_bound.0 c.requires.a_marks_len.0 c.requires.bases_len_bound.1)) ∙ put_equal _ (strand_absent _ _ c.in_default.is)
 
 pub returns : goal.returns
 unfolding restored_seq
 returns c =
     let a = c.args in
-    let xs = strand_bases a.a_annotation a.a-marks.now a.bases.now in
-    let long = first_length a.a_annotation a.a-marks.now a.bases.now in
-    let marks = c.requires.1.1 (ap is_annotated c.in-Of.is) in
-    part_restored c.in-Of.pattern a.b-marks.now xs a.seq.now (let a = c.args in
-    written _ _ c.methylation_strand_bases.ensures.1 (bases_fit a.a_annotation a.bases.now a.a-marks.now a.seq.now c.requires.0.0 c.requires.1.0 c.requires.0.1)) (sym long) (omega arith) (omega arith) c.restore_unconverted_bases.ensures.1
+    let xs = strand_bases a.a_annotation a.a_marks.now a.bases.now in
+    let long = first_length a.a_annotation a.a_marks.now a.bases.now in
+    let marks = c.requires.a_marks_len.1 (ap is_annotated c.in-Of.is) in
+    part_restored c.in-Of.pattern a.b_marks.now xs a.seq.now (let a = c.args in
+    written _ _ c.methylation_strand_bases.ensures.out_after (bases_fit a.a_annotation a.bases.now a.a_marks.now a.seq.now c.requires.bases_len_bound.0 c.requires.a_marks_len.0 c.requires.bases_len_bound.1)) (sym long) (omega arith) (omega arith) c.restore_unconverted_bases.ensures.consensus_bases_after
     ∙ put_equal _ (strand_of_lem _ _ c.in-Of.is)

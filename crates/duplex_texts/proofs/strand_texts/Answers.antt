@@ -10,11 +10,11 @@ returns-in_default c = no_texts _ _ _ _ c.in_default.is
 pub write_behind-requires : goal.write_behind-requires
 write_behind-requires c =
     (tagged _ _ _ _ (evident _ (let a = c.args in
-    strand a.annotation a.marks.now a.unconverted.now a.converted.now) c.in-Of.is c.requires.0) c.requires.1 (omega arith) c.build_mm_ml_tags.ensures c.lengths_of-n.ensures).enough
+    strand a.annotation a.marks.now a.unconverted.now a.converted.now) c.in-Of.is c.requires.as_long) c.requires.in_bounds (omega arith) c.build_mm_ml_tags.ensures c.lengths_of-n.ensures).enough
 
 pub returns : goal.returns
 returns c =
     let done = tagged _ _ _ _ (evident _ (let a = c.args in
-    strand a.annotation a.marks.now a.unconverted.now a.converted.now) c.in-Of.is c.requires.0) c.requires.1 (omega arith) c.build_mm_ml_tags.ensures c.lengths_of-n.ensures in
+    strand a.annotation a.marks.now a.unconverted.now a.converted.now) c.in-Of.is c.requires.as_long) c.requires.in_bounds (omega arith) c.build_mm_ml_tags.ensures c.lengths_of-n.ensures in
     some_texts _ _ _ _ (let a = c.args in
     strand a.annotation a.marks.now a.unconverted.now a.converted.now) c.in-Of.is done c.write_behind.ensures

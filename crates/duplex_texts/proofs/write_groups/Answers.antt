@@ -11,13 +11,13 @@ pub write_joined-requires : goal.write_joined-requires
 write_joined-requires c =
     let a = c.args in
     omega
-    (arith, c.requires, ap length c.part_u8-of_a.ensures, ap length c.part_u8-of_b.ensures, part_most a.a_at a.a-count a.from.now, part_most a.b_at a.b-count a.from.now)
+    (arith, c.requires, ap length c.part_u8-of_a.ensures, ap length c.part_u8-of_b.ensures, part_most a.a_at a.a_count a.from.now, part_most a.b_at a.b_count a.from.now)
 
 pub write_joined-requires-else-second_first : goal.write_joined-requires-else-second_first
 write_joined-requires-else-second_first c =
     let a = c.args in
     omega
-    (arith, c.requires, ap length c.part_u8-of_a.ensures, ap length c.part_u8-of_b.ensures, part_most a.a_at a.a-count a.from.now, part_most a.b_at a.b-count a.from.now)
+    (arith, c.requires, ap length c.part_u8-of_a.ensures, ap length c.part_u8-of_b.ensures, part_most a.a_at a.a_count a.from.now, part_most a.b_at a.b_count a.from.now)
 
 pub returns-then-second_first : goal.returns-then-second_first
 returns-then-second_first c =

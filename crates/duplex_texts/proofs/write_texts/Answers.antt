@@ -12,10 +12,10 @@ returns c = record {
 }
 
 pub overflow_add-second : goal.overflow_add-second
-overflow_add-second c = let pre = c.requires.0 in record { fits = omega (arith, pre.0, pre.1) }
+overflow_add-second c = let pre = c.requires.b_mm_bound in record { fits = omega (arith, pre.0, pre.1) }
 
 pub overflow_add-second_ml : goal.overflow_add-second_ml
-overflow_add-second_ml c = let pre = c.requires.0 in record { fits = omega (arith, pre.0, pre.1) }
+overflow_add-second_ml c = let pre = c.requires.b_mm_bound in record { fits = omega (arith, pre.0, pre.1) }
 
 pub overflow_add-second_ml-2 : goal.overflow_add-second_ml-2
-overflow_add-second_ml-2 c = let pre = c.requires.0 in record { fits = omega (arith, pre.0, pre.1) }
+overflow_add-second_ml-2 c = let pre = c.requires.b_mm_bound in record { fits = omega (arith, pre.0, pre.1) }
