@@ -3,6 +3,7 @@ use mathlib.Core.Path.{◌≡◌, sym, ◌∙◌}
 use mathlib.Core.Bool.{true, false}
 use mathlib.Core.List.{List}
 use Prim.Native.Nat.{ℕ, ◌+◌, ◌-◌}
+use native.Mathlib.Omega.{arith}
 use borrow.Author.Tests.{leb-true}
 use lib.Dec.{eqb, leb}
 use Rattle.refusals.proofs.Condition.{both_hold}
@@ -24,6 +25,7 @@ module _ (run : List ℕ) (at : ℕ) (f : FieldAt) (e : next_field run at ≡ Wh
       → Read (record { flags = flags; offset = f.offset + 2; length = f.length - 2 }) (f.offset + f.length) ≡ next_read run at
   unfolding next_read
   read_is flags t same = rw (e, (at_whole run at e).sized, t, same)
+
   no_read : read_field f.tag f.length ≡ false → Broken ≡ next_read run at
   unfolding next_read
   no_read t = rw (e, (at_whole run at e).sized, t)
@@ -46,3 +48,12 @@ returns-else-is_read c = no_read _ _ _ (sym c.next_field.ensures ∙ c.in-Whole.
 pub overflow_sub-read : goal.overflow_sub-read
 overflow_sub-read c = (let f = c.in-Whole.f in
     leb-true 2 f.length (both_hold (eqb f.tag 0x30) (leb 2 f.length) (sym c.is_read.ensures ∙ c.if-is_read.true)).1)
+
+pub overflow_add-read : goal.overflow_add-read
+overflow_add-read c =
+    let f = c.in-Whole.f in
+    let flagged = leb-true 2 f.length (both_hold (eqb f.tag 0x30) (leb 2 f.length) (sym c.is_read.ensures ∙ c.if-is_read.true)).1 in
+    record { fits = omega (arith, flagged, (at_whole _ _ (sym c.next_field.ensures ∙ c.in-Whole.is)).within) }
+
+pub overflow_add-result : goal.overflow_add-result
+overflow_add-result c = record { fits = omega (arith, (at_whole _ _ (sym c.next_field.ensures ∙ c.in-Whole.is)).within) }
