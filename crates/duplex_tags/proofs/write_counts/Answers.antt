@@ -10,18 +10,18 @@ use Rattle.duplex_tags.proofs.write_counts.Goals as goal
 
 pub slice_bounds-of_a-end : goal.slice_bounds-of_a-end
 slice_bounds-of_a-end c =
-    within c.args.a_annotation c.args.positions c.args.a.now c.requires.0.whole c.places-a_places.ensures
+    within c.args.a_annotation c.args.positions c.args.a.now c.requires.countable.whole c.places-a_places.ensures
 
 pub slice_bounds-of_b-end : goal.slice_bounds-of_b-end
 slice_bounds-of_b-end c =
-    within c.args.b_annotation c.args.positions c.args.b.now c.requires.1.0.whole c.places-b_places.ensures
+    within c.args.b_annotation c.args.positions c.args.b.now c.requires.countable_2.whole c.places-b_places.ensures
 
 pub returns : goal.returns
 unfolding kind_counts after unless
 returns c =
     let a = c.args in
-    let for_a = c.requires.0 in
-    let for_b = c.requires.1.0 in
+    let for_a = c.requires.countable in
+    let for_b = c.requires.countable_2 in
     let n = a.positions in
     let a_counts = a.a.now in
     let b_counts = a.b.now in
@@ -34,7 +34,7 @@ returns c =
     let a_few = few_places a.a_annotation n in
     let b_few = few_places a.b_annotation n in
     record {
-      a = written (tag_counts xs) a.a-out.now (rw of_a at c.unconverted_counts.ensures.1) (counts_fit xs a.a-out.now (omega arith) (omega arith));
-      b = written (tag_counts ys) a.b-out.now (rw of_b at c.unconverted_counts-2.ensures.1) (counts_fit ys a.b-out.now (omega arith) (omega arith));
-      both = written (summed_counts n xs ys) a.out.now (rw (of_a, of_b) at c.summed_counts.ensures.1) (summed_fit n xs ys a.out.now for_a.few (omega arith) (omega arith) c.requires.1.1);
+      a = written (tag_counts xs) a.a_out.now (rw of_a at c.unconverted_counts.ensures.out_after) (counts_fit xs a.a_out.now (omega arith) (omega arith));
+      b = written (tag_counts ys) a.b_out.now (rw of_b at c.unconverted_counts-2.ensures.out_after) (counts_fit ys a.b_out.now (omega arith) (omega arith));
+      both = written (summed_counts n xs ys) a.out.now (rw (of_a, of_b) at c.summed_counts.ensures.out_after) (summed_fit n xs ys a.out.now for_a.few (omega arith) (omega arith) c.requires.positions_in_bounds);
     }
