@@ -4,7 +4,6 @@ use mathlib.Core.Bool.{Bool}
 use mathlib.Core.List.{List}
 use Prim.Native.Nat.{ℕ, ◌-◌, ◌/◌, ◌≤◌}
 use native.Mathlib.Nat.{sub-zero}
-use native.Mathlib.Omega.{arith}
 use lib.ListN.{length, take, replicate}
 use Rattle.lists.specs.Output.{put}
 use Rattle.byte_numbers.specs.Bytes.{number_of, words16}
@@ -29,10 +28,6 @@ same_input :
     → e ≡ e'
     → input a ae second b be bases e ≡ input a' ae' second b' be' bases e'
 same_input a ae b be e = cc
-
--- What an array of 1,024 has room for.
-room : {n places : ℕ} → n ≤ 1024 → places ≡ 1024 → n ≤ places
-room h e = omega arith
 
 pub returns : goal.returns
 returns c =
