@@ -5,7 +5,6 @@ use Rattle.duplex_reads.specs.declared.Gate.TheVariants as gate
 use Rattle.duplex_reads.specs.declared.SameStrand.{SameStrand}
 use Rattle.duplex_reads.specs.declared.SameStrand.TheVariants as same
 use Rattle.duplex_partition.specs.Partition.{PartitionedAs}
-use Rattle.duplex_partition.specs.declared.BaseMi.{BaseMi}
 use Rattle.duplex_partition.specs.declared.BaseMi.TheVariants.{Absent, Part}
 use Rattle.duplex_partition.specs.declared.Partition.{Partition}
 use Rattle.duplex_partition.specs.declared.Partition.TheVariants as partition
