@@ -1,5 +1,4 @@
 -- `simplex_methylation::add_aligned` meets its contract: its loop adds to both counts where the read is looked at. Assumes nothing.
-use Prim.Native.Nat.{◌-◌}
 use mathlib.Core.Path.{◌≡◌}
 use mathlib.Core.Bool.{Bool, ◌&&◌}
 use Rattle.simplex_methylation.specs.Simplex.{informative, is_aligned, looked, base_is}
@@ -9,11 +8,11 @@ use Rattle.simplex_methylation.proofs.add_aligned.Goals as goal
 pub loop-i-init : goal.loop-i-init
 loop-i-init c =
     let pre = c.requires in
-    (start _ pre.1.1.1.0, start _ pre.1.1.1.1)
+    (start _ pre.places_in_bounds_3, start _ pre.places_in_bounds_4)
 
 pub bounds-aligned-at : goal.bounds-aligned-at
 bounds-aligned-at c =
-    c.requires.1.1.0 _ c.loop-i-test.true
+    c.requires.by_index _ c.loop-i-test.true
 
 pub count_one-requires : goal.count_one-requires
 count_one-requires c =
@@ -39,7 +38,7 @@ loop-i-preserved c =
 pub returns : goal.returns
 returns c =
     let inv = c.loop-i.invariant in
-    (all_added inv.0 c.loop-i-test.false, all_added inv.1 c.loop-i-test.false)
+    record { unconverted_out_after = all_added inv.0 c.loop-i-test.false; converted_out_after = all_added inv.1 c.loop-i-test.false }
 
 pub shape_of-unconverted_out : goal.shape_of-unconverted_out
 shape_of-unconverted_out c = c.loop-i.invariant.0.as_long

@@ -1,5 +1,4 @@
 -- `simplex_methylation::add_everywhere` meets its contract: its loop adds to both counts. Assumes nothing.
-use Prim.Native.Nat.{◌-◌}
 use Rattle.simplex_methylation.specs.Simplex.{base_is}
 use Rattle.simplex_methylation.proofs.Counts.{start, few, further, all_added}
 use Rattle.simplex_methylation.proofs.add_everywhere.Goals as goal
@@ -7,7 +6,7 @@ use Rattle.simplex_methylation.proofs.add_everywhere.Goals as goal
 pub loop-i-init : goal.loop-i-init
 loop-i-init c =
     let pre = c.requires in
-    (start _ pre.1.0, start _ pre.1.1)
+    (start _ pre.places_in_bounds_2, start _ pre.places_in_bounds_3)
 
 pub count_one-requires : goal.count_one-requires
 count_one-requires c =
@@ -29,7 +28,7 @@ loop-i-preserved c =
 pub returns : goal.returns
 returns c =
     let inv = c.loop-i.invariant in
-    (all_added inv.0 c.loop-i-test.false, all_added inv.1 c.loop-i-test.false)
+    record { unconverted_out_after = all_added inv.0 c.loop-i-test.false; converted_out_after = all_added inv.1 c.loop-i-test.false }
 
 pub shape_of-unconverted_out : goal.shape_of-unconverted_out
 shape_of-unconverted_out c = c.loop-i.invariant.0.as_long

@@ -20,34 +20,33 @@ pub add_everywhere-requires : goal.add_everywhere-requires
 add_everywhere-requires c =
     let pre = c.requires in
     let few = c.smaller-reached.ensures in
-    (omega (arith, few, within _ _ pre.0), ((omega (arith, few, pre.1.0), λ i l. pre.1.1 i (omega (arith, few))), (omega (arith, few, pre.2.0), λ i l. pre.2.1 i (omega (arith, few)))))
+    record {
+      places_in_bounds = omega (arith, few, within _ _ pre.0);
+      places_in_bounds_2 = (omega (arith, few, pre.1.0), λ i l. pre.1.1 i (omega (arith, few)));
+      places_in_bounds_3 = (omega (arith, few, pre.2.0), λ i l. pre.2.1 i (omega (arith, few)));
+    }
 
 pub returns-then-count_all_positions-ne0 : goal.returns-then-count_all_positions-ne0
 returns-then-count_all_positions-ne0 c =
     let pre = c.requires in
     let written = c.add_everywhere.ensures in
-    added_everywhere _ _ _ _ _ pre.0 _ _ _ _ _ _ _ (c.bases-letters.ensures ∙ ap pattern_bases c.pattern_of.ensures) pre.1.0 pre.2.0 (ap not (ne_eqb _ 0 c.if-count_all_positions-ne0.true)) c.smaller-reached.ensures written.0 written.1
+    added_everywhere _ _ _ _ _ pre.0 _ _ _ _ _ _ _ (c.bases-letters.ensures ∙ ap pattern_bases c.pattern_of.ensures) pre.1.0 pre.2.0 (ap not (ne_eqb _ 0 c.if-count_all_positions-ne0.true)) c.smaller-reached.ensures written.unconverted_out_after written.converted_out_after
 
 pub add_aligned-requires : goal.add_aligned-requires
 add_aligned-requires c =
     let pre = c.requires in
     let few = c.smaller-reached.ensures in
-    let fewer = c.marked_places-places.ensures in (
-      omega (arith, few, fewer, within _ _ pre.0),
-      (
-        omega (arith, few, fewer),
-        (
-          λ i l. omega (arith, few, fewer),
-          (
-            (omega (arith, few, fewer, pre.1.0), λ i l. pre.1.1 i (omega (arith, few, fewer))),
-            (omega (arith, few, fewer, pre.2.0), λ i l. pre.2.1 i (omega (arith, few, fewer))),
-          ),
-        ),
-      ),
-    )
+    let fewer = c.marked_places-places.ensures in
+    record {
+      places_in_bounds = omega (arith, few, fewer, within _ _ pre.0);
+      places_in_bounds_2 = omega (arith, few, fewer);
+      by_index = λ i l. omega (arith, few, fewer);
+      places_in_bounds_3 = (omega (arith, few, fewer, pre.1.0), λ i l. pre.1.1 i (omega (arith, few, fewer)));
+      places_in_bounds_4 = (omega (arith, few, fewer, pre.2.0), λ i l. pre.2.1 i (omega (arith, few, fewer)));
+    }
 
 pub returns : goal.returns
 returns c =
     let pre = c.requires in
     let written = c.add_aligned.ensures in
-    added_aligned _ _ _ _ _ pre.0 _ _ _ _ _ _ _ (c.bases-letters.ensures ∙ ap pattern_bases c.pattern_of.ensures) pre.1.0 pre.2.0 (ap not (eq-eqb _ 0 c.if-count_all_positions-ne0.false)) c.smaller-reached.ensures c.marked_places-places.ensures written.0 written.1
+    added_aligned _ _ _ _ _ pre.0 _ _ _ _ _ _ _ (c.bases-letters.ensures ∙ ap pattern_bases c.pattern_of.ensures) pre.1.0 pre.2.0 (ap not (eq-eqb _ 0 c.if-count_all_positions-ne0.false)) c.smaller-reached.ensures c.marked_places-places.ensures written.unconverted_out_after written.converted_out_after

@@ -25,12 +25,12 @@ mark_informative-requires c =
 
 pub clear_counts-requires : goal.clear_counts-requires
 clear_counts-requires c =
-    let r = room _ _ _ _ _ _ _ c.simplex_refusal-number.ensures c.if-number-ne0.left in
+    let r = room _ _ _ _ _ _ _ c.simplex_refusal-number.ensures c.if-number-ne0.false in
     (r.positions, r.outs.1)
 
 pub clear_counts-requires-2 : goal.clear_counts-requires-2
 clear_counts-requires-2 c =
-    let r = room _ _ _ _ _ _ _ c.simplex_refusal-number.ensures c.if-number-ne0.left in
+    let r = room _ _ _ _ _ _ _ c.simplex_refusal-number.ensures c.if-number-ne0.false in
     (r.positions, r.outs.2)
 
 with_letters :
@@ -42,12 +42,12 @@ with_letters reference n out e f = rw (← e) f
 
 pub returns : goal.returns
 returns c =
-    let passed = c.if-number-ne0.left in
+    let passed = c.if-number-ne0.false in
     let letters = c.bases-letters.ensures ∙ ap pattern_bases c.pattern_of.ensures in
     record {
       answered = c.simplex_refusal-number.ensures;
       left = record {
-        ⟪place After-mark_informative⟫ = with_letters _ _ _ letters c.mark_informative.ensures ∙ after_passed _ _ refl passed;
+        marks = with_letters _ _ _ letters c.mark_informative.ensures ∙ after_passed _ _ refl passed;
         unconverted = c.clear_counts.ensures ∙ after_passed _ _ refl passed;
         converted = c.clear_counts-2.ensures ∙ after_passed _ _ refl passed;
       };

@@ -1,5 +1,4 @@
 -- `simplex_methylation::clear_counts` meets its contract: its loop fills the front of the counts with 0. Assumes nothing.
-use Prim.Native.Nat.{◌-◌}
 use mathlib.Core.Path.{sym}
 use lib.ListN.{length-replicate, get_or-replicate}
 use Rattle.lists.proofs.Output.{begin, same, fits, next, done}

@@ -1,5 +1,4 @@
 -- `simplex_methylation::mark_informative` meets its contract: its loop fills the output with the marks. Assumes nothing.
-use Prim.Native.Nat.{◌-◌}
 use mathlib.Core.Path.{sym}
 use Rattle.lists.proofs.Output.{begin, same, fits, next, done}
 use Rattle.lists.proofs.Table.{length_tabulate, get_d_tabulate}
