@@ -2,18 +2,35 @@
 // line_molecule's. The file stdin has the document's example, and stdout the lines that it prints.
 #![tactic(auto)]
 
+ghost use Rattle.std.specs.Prelude.{◌≤◌, length};
+
 use line_molecule::duplex_line;
+use std::io::{Read, Write};
 
-const STDIN: i32 = 0;
+// Reads until buf is full, the input ends or a read fails, and answers how many bytes stand at the front of buf.
+fn read_full(input: &mut impl Read, buf: &mut [u8]) -> usize
+    ensures { result ≤ length buf.new }
+{
+    let mut done = 0;
+    while done < buf.len() {
+        let Ok(n) = input.read(&mut buf[done..]) else {
+            break;
+        };
+        if n == 0 {
+            break;
+        }
+        done += n;
+    }
+    done
+}
 
-const STDOUT: i32 = 1;
-
-// There is room for a byte more than an encoded molecule can have, so that one that is too long is seen to be.
-fn main() {
+// There is room for a byte more than an encoded molecule can have, so that one that is too long is seen to be. The status is 0,
+// also where not all could be read or printed.
+fn main(rt: HostRuntime) {
     let mut input = [0; 65537];
-    let n = io::read_full(STDIN, &mut input);
+    let n = read_full(&mut rt.stdin(), &mut input);
     let line = duplex_line(&input[0..n]);
     let end = line.length;
     let text = line.bytes;
-    io::write_all(STDOUT, &text[0..end]);
+    let _ = rt.stdout().write_all(&text[0..end]);
 }
