@@ -11,4 +11,4 @@ returns-then-wrong_annotation c =
 pub returns : goal.returns
 returns c =
     passed_on _ (sym c.wrong_annotation.ensures ∙ c.if-wrong_annotation.false) c.positions_count-2.ensures
-    (bases_told c.annotation_of-told.ensures c.methylation_strand_bases.ensures.0 c.methylation_strand_bases.ensures.1)
+    (bases_told c.annotation_of-told.ensures c.methylation_strand_bases.ensures.value c.methylation_strand_bases.ensures.out_after)

@@ -11,4 +11,4 @@ returns-then-wrong_pattern c =
 pub returns : goal.returns
 returns c =
     passed_on _ (sym c.wrong_pattern.ensures ∙ c.if-wrong_pattern.false) c.positions_count-2.ensures
-    (restored_told c.pattern_of-told.ensures c.restore_unconverted_bases.ensures.0 c.restore_unconverted_bases.ensures.1)
+    (restored_told c.pattern_of-told.ensures c.restore_unconverted_bases.ensures.value c.restore_unconverted_bases.ensures.consensus_bases_after)
