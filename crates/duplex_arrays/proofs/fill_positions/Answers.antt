@@ -1,5 +1,4 @@
 -- `duplex_arrays::fill_positions` meets its contract: its loop fills both outputs. Assumes nothing.
-use Prim.Native.Nat.{◌-◌}
 use native.Mathlib.Nat.{lt_of_lt_of_le}
 use Rattle.lists.proofs.Output.{begin, same, fits, next, done}
 use Rattle.duplex_molecule.specs.Molecule.{call_at}

@@ -1,5 +1,4 @@
 -- `duplex_evidence::fill_counts` meets its contract: its loop fills two outputs with the counts of marked positions. Assumes nothing.
-use Prim.Native.Nat.{◌-◌}
 use mathlib.Core.Path.{ap}
 use native.Mathlib.Omega.{arith}
 use Rattle.lists.proofs.Output.{same, fits, done}

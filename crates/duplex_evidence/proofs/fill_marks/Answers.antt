@@ -1,5 +1,4 @@
 -- `duplex_evidence::fill_marks` meets its contract: its loop fills the output with the marks. Assumes nothing.
-use Prim.Native.Nat.{◌-◌}
 use mathlib.Core.Path.{ap}
 use native.Mathlib.Omega.{arith}
 use Rattle.lists.proofs.Output.{same, fits, done}

@@ -1,7 +1,7 @@
 -- `duplex_record::duplex_record` meets its contract: refused by what is given, or by the record's kind what the call that writes it
 -- leaves. Assumes nothing.
 use Rattle.vanilla_caller.specs.Strand.{arrays}
-use Rattle.duplex_kind.specs.Kind.{strand, record_kind}
+use Rattle.duplex_kind.specs.Kind.{strand}
 use Rattle.duplex_record.proofs.Record.{kind_by_lem, turned_down, none, alone_ab, alone_ba, both}
 use Rattle.duplex_record.proofs.Unannotated.{unannotated}
 use Rattle.duplex_record.proofs.Untouched.{same}

@@ -4,7 +4,7 @@ use mathlib.Core.List.{[]}
 use Rattle.methylation.specs.declared.Annotation.TheVariants.{Absent}
 use Rattle.vanilla_caller.specs.Strand.{arrays}
 use Rattle.duplex_molecule.specs.Molecule.{ct_input}
-use Rattle.duplex_kind.specs.Kind.{strand, record_kind}
+use Rattle.duplex_kind.specs.Kind.{strand}
 use Rattle.duplex_record.proofs.Record.{kind_given_lem, turned_down, none, alone_ab, alone_ba, both}
 use Rattle.duplex_record.proofs.Untouched.{same}
 use Rattle.duplex_record.proofs.plain_record.Goals as goal

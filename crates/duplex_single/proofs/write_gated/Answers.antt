@@ -1,5 +1,4 @@
 -- `duplex_single::write_gated` meets its contract: its loop fills the three outputs with the gated evidence. Assumes nothing.
-use Prim.Native.Nat.{◌-◌}
 use Rattle.lists.proofs.Output.{same, fits}
 use Rattle.methylation.proofs.Filling.{begin_evidence, next_evidence, done_evidence}
 use Rattle.duplex_single.proofs.write_gated.Goals as goal
