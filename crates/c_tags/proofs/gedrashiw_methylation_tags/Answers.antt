@@ -1,6 +1,5 @@
 -- `c_tags::gedrashiw_methylation_tags` meets its contract: refused by the first test or by the texts, or all is written. Assumes nothing.
 use mathlib.Core.Path.{ap, ◌∙◌}
-use Rattle.replies.specs.Choices.{mode_of}
 use Rattle.duplex_texts.specs.Texts.{text_arrays}
 use Rattle.duplex_tags.specs.Tags.{count_arrays}
 use Rattle.duplex_tags.specs.Parts.{tags_of}
@@ -12,13 +11,12 @@ use Rattle.c_tags.proofs.gedrashiw_methylation_tags.Goals as goal
 
 pub returns-then-number-ne0 : goal.returns-then-number-ne0
 returns-then-number-ne0 c =
-    early c.args.mode c.args.bases.now (annotation_bytes c.args.a_annotated c.args.a_pattern c.args.a_evidence.now) (annotation_bytes c.args.b_annotated c.args.b_pattern c.args.b_evidence.now) (let a = c.args in
-    duplex_arrays
-    (text_arrays a.seq-out.now a.a-mm-out.now a.b-mm-out.now a.mm-out.now a.ml-out.now)
-    (count_arrays a.a-unconverted-out.now a.a-converted-out.now a.b-unconverted-out.now a.b-converted-out.now a.unconverted-out.now a.converted-out.now)) (same_first c.args.mode c.args.bases.now (annotation_bytes c.args.a_annotated c.args.a_pattern c.args.a_evidence.now) (annotation_bytes c.args.b_annotated c.args.b_pattern c.args.b_evidence.now) (let a = c.args in
-    duplex_arrays
-    (text_arrays a.seq-out.now a.a-mm-out.now a.b-mm-out.now a.mm-out.now a.ml-out.now)
-    (count_arrays a.a-unconverted-out.now a.a-converted-out.now a.b-unconverted-out.now a.b-converted-out.now a.unconverted-out.now a.converted-out.now))
+    let a = c.args in
+    let first = annotation_bytes a.a_annotated a.a_pattern a.a_evidence.now in
+    let second = annotation_bytes a.b_annotated a.b_pattern a.b_evidence.now in
+    let outputs = duplex_arrays (text_arrays a.seq_out.now a.a_mm_out.now a.b_mm_out.now a.mm_out.now a.ml_out.now) (count_arrays a.a_unconverted_out.now a.a_converted_out.now a.b_unconverted_out.now a.b_converted_out.now a.unconverted_out.now a.converted_out.now) in
+    let number =
+    same_first a.mode a.bases.now first second outputs
     c.is_broken.ensures
     c.is_broken-2.ensures
     c.wrong_mode.ensures
@@ -28,17 +26,17 @@ returns-then-number-ne0 c =
     c.seen_u8-b_seen.ensures
     c.counts_in.ensures
     c.counts_in-2.ensures
-    c.first_refusal-number.ensures) c.if-number-ne0.true c.duplex_tags_reply.ensures
+    c.first_refusal-number.ensures in
+    early a.mode a.bases.now first second outputs number c.if-number-ne0.true c.duplex_tags_reply.ensures
 
 pub write_texts-texts-requires : goal.write_texts-texts-requires
 write_texts-texts-requires c =
-    let so_far = (ready c.args.mode c.args.bases.now (annotation_bytes c.args.a_annotated c.args.a_pattern c.args.a_evidence.now) (annotation_bytes c.args.b_annotated c.args.b_pattern c.args.b_evidence.now) (let a = c.args in
-    duplex_arrays
-    (text_arrays a.seq-out.now a.a-mm-out.now a.b-mm-out.now a.mm-out.now a.ml-out.now)
-    (count_arrays a.a-unconverted-out.now a.a-converted-out.now a.b-unconverted-out.now a.b-converted-out.now a.unconverted-out.now a.converted-out.now)) (same_first c.args.mode c.args.bases.now (annotation_bytes c.args.a_annotated c.args.a_pattern c.args.a_evidence.now) (annotation_bytes c.args.b_annotated c.args.b_pattern c.args.b_evidence.now) (let a = c.args in
-    duplex_arrays
-    (text_arrays a.seq-out.now a.a-mm-out.now a.b-mm-out.now a.mm-out.now a.ml-out.now)
-    (count_arrays a.a-unconverted-out.now a.a-converted-out.now a.b-unconverted-out.now a.b-converted-out.now a.unconverted-out.now a.converted-out.now))
+    let a = c.args in
+    let first = annotation_bytes a.a_annotated a.a_pattern a.a_evidence.now in
+    let second = annotation_bytes a.b_annotated a.b_pattern a.b_evidence.now in
+    let outputs = duplex_arrays (text_arrays a.seq_out.now a.a_mm_out.now a.b_mm_out.now a.mm_out.now a.ml_out.now) (count_arrays a.a_unconverted_out.now a.a_converted_out.now a.b_unconverted_out.now a.b_converted_out.now a.unconverted_out.now a.converted_out.now) in
+    let number =
+    same_first a.mode a.bases.now first second outputs
     c.is_broken.ensures
     c.is_broken-2.ensures
     c.wrong_mode.ensures
@@ -48,22 +46,18 @@ write_texts-texts-requires c =
     c.seen_u8-b_seen.ensures
     c.counts_in.ensures
     c.counts_in-2.ensures
-    c.first_refusal-number.ensures) c.if-number-ne0.false) in
-    (few_of c.seen_u8-a_seen.ensures so_far.a-few, few_of c.seen_u8-b_seen.ensures so_far.b-few)
+    c.first_refusal-number.ensures in
+    let so_far = ready a.mode a.bases.now first second outputs number c.if-number-ne0.false in
+    record { a_evidence_len_bound = few_of c.seen_u8-a_seen.ensures so_far.a_few; b_evidence_len_bound = few_of c.seen_u8-b_seen.ensures so_far.b_few }
 
 pub returns-then-reply-ne0 : goal.returns-then-reply-ne0
 returns-then-reply-ne0 c =
-    late c.args.mode c.args.bases.now (annotation_bytes c.args.a_annotated c.args.a_pattern c.args.a_evidence.now) (annotation_bytes c.args.b_annotated c.args.b_pattern c.args.b_evidence.now) (let a = c.args in
-    duplex_arrays
-    (text_arrays a.seq-out.now a.a-mm-out.now a.b-mm-out.now a.mm-out.now a.ml-out.now)
-    (count_arrays a.a-unconverted-out.now a.a-converted-out.now a.b-unconverted-out.now a.b-converted-out.now a.unconverted-out.now a.converted-out.now)) (let last = c.write_texts-texts.new.1.1.1.1.1.1 in
-    text_arrays last.0 last.1.0 last.1.1.0 last.1.1.1.0 last.1.1.1.1.0) c.write_texts-texts.result (ready c.args.mode c.args.bases.now (annotation_bytes c.args.a_annotated c.args.a_pattern c.args.a_evidence.now) (annotation_bytes c.args.b_annotated c.args.b_pattern c.args.b_evidence.now) (let a = c.args in
-    duplex_arrays
-    (text_arrays a.seq-out.now a.a-mm-out.now a.b-mm-out.now a.mm-out.now a.ml-out.now)
-    (count_arrays a.a-unconverted-out.now a.a-converted-out.now a.b-unconverted-out.now a.b-converted-out.now a.unconverted-out.now a.converted-out.now)) (same_first c.args.mode c.args.bases.now (annotation_bytes c.args.a_annotated c.args.a_pattern c.args.a_evidence.now) (annotation_bytes c.args.b_annotated c.args.b_pattern c.args.b_evidence.now) (let a = c.args in
-    duplex_arrays
-    (text_arrays a.seq-out.now a.a-mm-out.now a.b-mm-out.now a.mm-out.now a.ml-out.now)
-    (count_arrays a.a-unconverted-out.now a.a-converted-out.now a.b-unconverted-out.now a.b-converted-out.now a.unconverted-out.now a.converted-out.now))
+    let a = c.args in
+    let first = annotation_bytes a.a_annotated a.a_pattern a.a_evidence.now in
+    let second = annotation_bytes a.b_annotated a.b_pattern a.b_evidence.now in
+    let outputs = duplex_arrays (text_arrays a.seq_out.now a.a_mm_out.now a.b_mm_out.now a.mm_out.now a.ml_out.now) (count_arrays a.a_unconverted_out.now a.a_converted_out.now a.b_unconverted_out.now a.b_converted_out.now a.unconverted_out.now a.converted_out.now) in
+    let number =
+    same_first a.mode a.bases.now first second outputs
     c.is_broken.ensures
     c.is_broken-2.ensures
     c.wrong_mode.ensures
@@ -73,27 +67,28 @@ returns-then-reply-ne0 c =
     c.seen_u8-b_seen.ensures
     c.counts_in.ensures
     c.counts_in-2.ensures
-    c.first_refusal-number.ensures) c.if-number-ne0.false) (same_texts c.args.mode c.args.bases.now (annotation_bytes c.args.a_annotated c.args.a_pattern c.args.a_evidence.now) (annotation_bytes c.args.b_annotated c.args.b_pattern c.args.b_evidence.now) (let a = c.args in
-    duplex_arrays
-    (text_arrays a.seq-out.now a.a-mm-out.now a.b-mm-out.now a.mm-out.now a.ml-out.now)
-    (count_arrays a.a-unconverted-out.now a.a-converted-out.now a.b-unconverted-out.now a.b-converted-out.now a.unconverted-out.now a.converted-out.now)) (let last = c.write_texts-texts.new.1.1.1.1.1.1 in
-    text_arrays last.0 last.1.0 last.1.1.0 last.1.1.1.0 last.1.1.1.1.0) c.write_texts-texts.result
+    c.first_refusal-number.ensures in
+    let so_far = ready a.mode a.bases.now first second outputs number c.if-number-ne0.false in
+    let left = c.write_texts-texts.new in
+    let texts = text_arrays left.seq_out left.a_mm_out left.b_mm_out left.mm_out left.ml_out in
+    let made =
+    same_texts a.mode a.bases.now first second outputs texts c.write_texts-texts.result
     c.mode_of.ensures
     c.annotation_of-a.ensures
     c.annotation_of-b.ensures
     c.seen_u8-a_seen.ensures
     c.seen_u8-b_seen.ensures
-    c.write_texts-texts.ensures) (c.duplex_tags_reply-reply.ensures ∙ ap duplex_tags_reply c.tags_of.ensures) c.if-reply-ne0.true
+    c.write_texts-texts.ensures in
+    late a.mode a.bases.now first second outputs texts c.write_texts-texts.result so_far made (c.duplex_tags_reply-reply.ensures ∙ ap duplex_tags_reply c.tags_of.ensures) c.if-reply-ne0.true
 
 pub write_strand-requires : goal.write_strand-requires
 write_strand-requires c =
-    let so_far = (ready c.args.mode c.args.bases.now (annotation_bytes c.args.a_annotated c.args.a_pattern c.args.a_evidence.now) (annotation_bytes c.args.b_annotated c.args.b_pattern c.args.b_evidence.now) (let a = c.args in
-    duplex_arrays
-    (text_arrays a.seq-out.now a.a-mm-out.now a.b-mm-out.now a.mm-out.now a.ml-out.now)
-    (count_arrays a.a-unconverted-out.now a.a-converted-out.now a.b-unconverted-out.now a.b-converted-out.now a.unconverted-out.now a.converted-out.now)) (same_first c.args.mode c.args.bases.now (annotation_bytes c.args.a_annotated c.args.a_pattern c.args.a_evidence.now) (annotation_bytes c.args.b_annotated c.args.b_pattern c.args.b_evidence.now) (let a = c.args in
-    duplex_arrays
-    (text_arrays a.seq-out.now a.a-mm-out.now a.b-mm-out.now a.mm-out.now a.ml-out.now)
-    (count_arrays a.a-unconverted-out.now a.a-converted-out.now a.b-unconverted-out.now a.b-converted-out.now a.unconverted-out.now a.converted-out.now))
+    let a = c.args in
+    let first = annotation_bytes a.a_annotated a.a_pattern a.a_evidence.now in
+    let second = annotation_bytes a.b_annotated a.b_pattern a.b_evidence.now in
+    let outputs = duplex_arrays (text_arrays a.seq_out.now a.a_mm_out.now a.b_mm_out.now a.mm_out.now a.ml_out.now) (count_arrays a.a_unconverted_out.now a.a_converted_out.now a.b_unconverted_out.now a.b_converted_out.now a.unconverted_out.now a.converted_out.now) in
+    let number =
+    same_first a.mode a.bases.now first second outputs
     c.is_broken.ensures
     c.is_broken-2.ensures
     c.wrong_mode.ensures
@@ -103,19 +98,19 @@ write_strand-requires c =
     c.seen_u8-b_seen.ensures
     c.counts_in.ensures
     c.counts_in-2.ensures
-    c.first_refusal-number.ensures) c.if-number-ne0.false) in
+    c.first_refusal-number.ensures in
+    let so_far = ready a.mode a.bases.now first second outputs number c.if-number-ne0.false in
     let seen = c.seen_u8-a_seen.ensures in
-    (fits_of seen so_far.a-unconverted, fits_of seen so_far.a-converted)
+    record { fits = fits_of seen so_far.a_unconverted; fits_2 = fits_of seen so_far.a_converted }
 
 pub write_strand-requires-2 : goal.write_strand-requires-2
 write_strand-requires-2 c =
-    let so_far = (ready c.args.mode c.args.bases.now (annotation_bytes c.args.a_annotated c.args.a_pattern c.args.a_evidence.now) (annotation_bytes c.args.b_annotated c.args.b_pattern c.args.b_evidence.now) (let a = c.args in
-    duplex_arrays
-    (text_arrays a.seq-out.now a.a-mm-out.now a.b-mm-out.now a.mm-out.now a.ml-out.now)
-    (count_arrays a.a-unconverted-out.now a.a-converted-out.now a.b-unconverted-out.now a.b-converted-out.now a.unconverted-out.now a.converted-out.now)) (same_first c.args.mode c.args.bases.now (annotation_bytes c.args.a_annotated c.args.a_pattern c.args.a_evidence.now) (annotation_bytes c.args.b_annotated c.args.b_pattern c.args.b_evidence.now) (let a = c.args in
-    duplex_arrays
-    (text_arrays a.seq-out.now a.a-mm-out.now a.b-mm-out.now a.mm-out.now a.ml-out.now)
-    (count_arrays a.a-unconverted-out.now a.a-converted-out.now a.b-unconverted-out.now a.b-converted-out.now a.unconverted-out.now a.converted-out.now))
+    let a = c.args in
+    let first = annotation_bytes a.a_annotated a.a_pattern a.a_evidence.now in
+    let second = annotation_bytes a.b_annotated a.b_pattern a.b_evidence.now in
+    let outputs = duplex_arrays (text_arrays a.seq_out.now a.a_mm_out.now a.b_mm_out.now a.mm_out.now a.ml_out.now) (count_arrays a.a_unconverted_out.now a.a_converted_out.now a.b_unconverted_out.now a.b_converted_out.now a.unconverted_out.now a.converted_out.now) in
+    let number =
+    same_first a.mode a.bases.now first second outputs
     c.is_broken.ensures
     c.is_broken-2.ensures
     c.wrong_mode.ensures
@@ -125,19 +120,19 @@ write_strand-requires-2 c =
     c.seen_u8-b_seen.ensures
     c.counts_in.ensures
     c.counts_in-2.ensures
-    c.first_refusal-number.ensures) c.if-number-ne0.false) in
+    c.first_refusal-number.ensures in
+    let so_far = ready a.mode a.bases.now first second outputs number c.if-number-ne0.false in
     let seen = c.seen_u8-b_seen.ensures in
-    (fits_of seen so_far.b-unconverted, fits_of seen so_far.b-converted)
+    record { fits = fits_of seen so_far.b_unconverted; fits_2 = fits_of seen so_far.b_converted }
 
 pub write_sums-requires : goal.write_sums-requires
 write_sums-requires c =
-    let so_far = (ready c.args.mode c.args.bases.now (annotation_bytes c.args.a_annotated c.args.a_pattern c.args.a_evidence.now) (annotation_bytes c.args.b_annotated c.args.b_pattern c.args.b_evidence.now) (let a = c.args in
-    duplex_arrays
-    (text_arrays a.seq-out.now a.a-mm-out.now a.b-mm-out.now a.mm-out.now a.ml-out.now)
-    (count_arrays a.a-unconverted-out.now a.a-converted-out.now a.b-unconverted-out.now a.b-converted-out.now a.unconverted-out.now a.converted-out.now)) (same_first c.args.mode c.args.bases.now (annotation_bytes c.args.a_annotated c.args.a_pattern c.args.a_evidence.now) (annotation_bytes c.args.b_annotated c.args.b_pattern c.args.b_evidence.now) (let a = c.args in
-    duplex_arrays
-    (text_arrays a.seq-out.now a.a-mm-out.now a.b-mm-out.now a.mm-out.now a.ml-out.now)
-    (count_arrays a.a-unconverted-out.now a.a-converted-out.now a.b-unconverted-out.now a.b-converted-out.now a.unconverted-out.now a.converted-out.now))
+    let a = c.args in
+    let first = annotation_bytes a.a_annotated a.a_pattern a.a_evidence.now in
+    let second = annotation_bytes a.b_annotated a.b_pattern a.b_evidence.now in
+    let outputs = duplex_arrays (text_arrays a.seq_out.now a.a_mm_out.now a.b_mm_out.now a.mm_out.now a.ml_out.now) (count_arrays a.a_unconverted_out.now a.a_converted_out.now a.b_unconverted_out.now a.b_converted_out.now a.unconverted_out.now a.converted_out.now) in
+    let number =
+    same_first a.mode a.bases.now first second outputs
     c.is_broken.ensures
     c.is_broken-2.ensures
     c.wrong_mode.ensures
@@ -147,24 +142,22 @@ write_sums-requires c =
     c.seen_u8-b_seen.ensures
     c.counts_in.ensures
     c.counts_in-2.ensures
-    c.first_refusal-number.ensures) c.if-number-ne0.false) in (
-      (few_of c.seen_u8-a_seen.ensures so_far.a-few, few_of c.seen_u8-b_seen.ensures so_far.b-few),
-      (so_far.unconverted, so_far.converted),
-    )
+    c.first_refusal-number.ensures in
+    let so_far = ready a.mode a.bases.now first second outputs number c.if-number-ne0.false in
+    record {
+      a_evidence_len_bound = (few_of c.seen_u8-a_seen.ensures so_far.a_few, few_of c.seen_u8-b_seen.ensures so_far.b_few);
+      fits = so_far.unconverted;
+      fits_2 = so_far.converted;
+    }
 
 pub returns : goal.returns
 returns c =
-    all_written c.args.mode c.args.bases.now (annotation_bytes c.args.a_annotated c.args.a_pattern c.args.a_evidence.now) (annotation_bytes c.args.b_annotated c.args.b_pattern c.args.b_evidence.now) (let a = c.args in
-    duplex_arrays
-    (text_arrays a.seq-out.now a.a-mm-out.now a.b-mm-out.now a.mm-out.now a.ml-out.now)
-    (count_arrays a.a-unconverted-out.now a.a-converted-out.now a.b-unconverted-out.now a.b-converted-out.now a.unconverted-out.now a.converted-out.now)) (let last = c.write_texts-texts.new.1.1.1.1.1.1 in
-    text_arrays last.0 last.1.0 last.1.1.0 last.1.1.1.0 last.1.1.1.1.0) c.write_texts-texts.result (ready c.args.mode c.args.bases.now (annotation_bytes c.args.a_annotated c.args.a_pattern c.args.a_evidence.now) (annotation_bytes c.args.b_annotated c.args.b_pattern c.args.b_evidence.now) (let a = c.args in
-    duplex_arrays
-    (text_arrays a.seq-out.now a.a-mm-out.now a.b-mm-out.now a.mm-out.now a.ml-out.now)
-    (count_arrays a.a-unconverted-out.now a.a-converted-out.now a.b-unconverted-out.now a.b-converted-out.now a.unconverted-out.now a.converted-out.now)) (same_first c.args.mode c.args.bases.now (annotation_bytes c.args.a_annotated c.args.a_pattern c.args.a_evidence.now) (annotation_bytes c.args.b_annotated c.args.b_pattern c.args.b_evidence.now) (let a = c.args in
-    duplex_arrays
-    (text_arrays a.seq-out.now a.a-mm-out.now a.b-mm-out.now a.mm-out.now a.ml-out.now)
-    (count_arrays a.a-unconverted-out.now a.a-converted-out.now a.b-unconverted-out.now a.b-converted-out.now a.unconverted-out.now a.converted-out.now))
+    let a = c.args in
+    let first = annotation_bytes a.a_annotated a.a_pattern a.a_evidence.now in
+    let second = annotation_bytes a.b_annotated a.b_pattern a.b_evidence.now in
+    let outputs = duplex_arrays (text_arrays a.seq_out.now a.a_mm_out.now a.b_mm_out.now a.mm_out.now a.ml_out.now) (count_arrays a.a_unconverted_out.now a.a_converted_out.now a.b_unconverted_out.now a.b_converted_out.now a.unconverted_out.now a.converted_out.now) in
+    let number =
+    same_first a.mode a.bases.now first second outputs
     c.is_broken.ensures
     c.is_broken-2.ensures
     c.wrong_mode.ensures
@@ -174,19 +167,18 @@ returns c =
     c.seen_u8-b_seen.ensures
     c.counts_in.ensures
     c.counts_in-2.ensures
-    c.first_refusal-number.ensures) c.if-number-ne0.false) (same_texts c.args.mode c.args.bases.now (annotation_bytes c.args.a_annotated c.args.a_pattern c.args.a_evidence.now) (annotation_bytes c.args.b_annotated c.args.b_pattern c.args.b_evidence.now) (let a = c.args in
-    duplex_arrays
-    (text_arrays a.seq-out.now a.a-mm-out.now a.b-mm-out.now a.mm-out.now a.ml-out.now)
-    (count_arrays a.a-unconverted-out.now a.a-converted-out.now a.b-unconverted-out.now a.b-converted-out.now a.unconverted-out.now a.converted-out.now)) (let last = c.write_texts-texts.new.1.1.1.1.1.1 in
-    text_arrays last.0 last.1.0 last.1.1.0 last.1.1.1.0 last.1.1.1.1.0) c.write_texts-texts.result
+    c.first_refusal-number.ensures in
+    let so_far = ready a.mode a.bases.now first second outputs number c.if-number-ne0.false in
+    let left = c.write_texts-texts.new in
+    let texts = text_arrays left.seq_out left.a_mm_out left.b_mm_out left.mm_out left.ml_out in
+    let made =
+    same_texts a.mode a.bases.now first second outputs texts c.write_texts-texts.result
     c.mode_of.ensures
     c.annotation_of-a.ensures
     c.annotation_of-b.ensures
     c.seen_u8-a_seen.ensures
     c.seen_u8-b_seen.ensures
-    c.write_texts-texts.ensures) _ (c.duplex_tags_reply-reply.ensures ∙ ap duplex_tags_reply c.tags_of.ensures) c.if-reply-ne0.false
-    (left_counts c.args.mode c.args.bases.now (annotation_bytes c.args.a_annotated c.args.a_pattern c.args.a_evidence.now) (annotation_bytes c.args.b_annotated c.args.b_pattern c.args.b_evidence.now) (let a = c.args in
-    duplex_arrays
-    (text_arrays a.seq-out.now a.a-mm-out.now a.b-mm-out.now a.mm-out.now a.ml-out.now)
-    (count_arrays a.a-unconverted-out.now a.a-converted-out.now a.b-unconverted-out.now a.b-converted-out.now a.unconverted-out.now a.converted-out.now)) _ c.seen_u8-a_seen.ensures c.seen_u8-b_seen.ensures
+    c.write_texts-texts.ensures in
+    all_written a.mode a.bases.now first second outputs texts c.write_texts-texts.result so_far made _ (c.duplex_tags_reply-reply.ensures ∙ ap duplex_tags_reply c.tags_of.ensures) c.if-reply-ne0.false
+    (left_counts a.mode a.bases.now first second outputs _ c.seen_u8-a_seen.ensures c.seen_u8-b_seen.ensures
     c.write_strand.ensures c.write_strand-2.ensures c.write_sums.ensures)

@@ -11,23 +11,23 @@ use Rattle.c_tags.proofs.write_sums.Goals as goal
 
 pub write_summed-requires : goal.write_summed-requires
 write_summed-requires c =
-    (
-      c.requires.1.0,
-      (
-        read_few (count_in 1) c.args.a_evidence.now c.requires.0.0 c.read_evidence.ensures.1.0 c.front_u32.ensures,
-        read_few (count_in 1) c.args.b_evidence.now c.requires.0.1 c.read_evidence-2.ensures.1.0 c.front_u32-2.ensures,
-      ),
-    )
+    record {
+      fits = c.requires.fits;
+      a_len_bound = (
+        read_few (count_in 1) c.args.a_evidence.now c.requires.a_evidence_len_bound.0 c.read_evidence.ensures.unconverted_after c.front_u32.ensures,
+        read_few (count_in 1) c.args.b_evidence.now c.requires.a_evidence_len_bound.1 c.read_evidence-2.ensures.unconverted_after c.front_u32-2.ensures,
+      );
+    }
 
 pub write_summed-requires-2 : goal.write_summed-requires-2
 write_summed-requires-2 c =
-    (
-      c.requires.1.1,
-      (
-        read_few (count_in 5) c.args.a_evidence.now c.requires.0.0 c.read_evidence.ensures.1.1 c.front_u32-3.ensures,
-        read_few (count_in 5) c.args.b_evidence.now c.requires.0.1 c.read_evidence-2.ensures.1.1 c.front_u32-4.ensures,
-      ),
-    )
+    record {
+      fits = c.requires.fits_2;
+      a_len_bound = (
+        read_few (count_in 5) c.args.a_evidence.now c.requires.a_evidence_len_bound.0 c.read_evidence.ensures.converted_after c.front_u32-3.ensures,
+        read_few (count_in 5) c.args.b_evidence.now c.requires.a_evidence_len_bound.1 c.read_evidence-2.ensures.converted_after c.front_u32-4.ensures,
+      );
+    }
 
 pub returns : goal.returns
 returns c =
@@ -37,12 +37,12 @@ returns c =
     record {
       unconverted =
           c.write_summed.ensures
-          ∙ ap₂ (λ (l : List ℕ) (m : List ℕ). put (bytes16 (summed_counts a.positions l m)) a.unconverted-out.now)
-          (read (count_in 1) a.a-evidence.now c.requires.0.0 of_a.1.0 c.front_u32.ensures)
-          (read (count_in 1) a.b-evidence.now c.requires.0.1 of_b.1.0 c.front_u32-2.ensures);
+          ∙ ap₂ (λ (l : List ℕ) (m : List ℕ). put (bytes16 (summed_counts a.positions l m)) a.unconverted_out.now)
+          (read (count_in 1) a.a_evidence.now c.requires.a_evidence_len_bound.0 of_a.unconverted_after c.front_u32.ensures)
+          (read (count_in 1) a.b_evidence.now c.requires.a_evidence_len_bound.1 of_b.unconverted_after c.front_u32-2.ensures);
       converted =
           c.write_summed-2.ensures
-          ∙ ap₂ (λ (l : List ℕ) (m : List ℕ). put (bytes16 (summed_counts a.positions l m)) a.converted-out.now)
-          (read (count_in 5) a.a-evidence.now c.requires.0.0 of_a.1.1 c.front_u32-3.ensures)
-          (read (count_in 5) a.b-evidence.now c.requires.0.1 of_b.1.1 c.front_u32-4.ensures);
+          ∙ ap₂ (λ (l : List ℕ) (m : List ℕ). put (bytes16 (summed_counts a.positions l m)) a.converted_out.now)
+          (read (count_in 5) a.a_evidence.now c.requires.a_evidence_len_bound.0 of_a.converted_after c.front_u32-3.ensures)
+          (read (count_in 5) a.b_evidence.now c.requires.a_evidence_len_bound.1 of_b.converted_after c.front_u32-4.ensures);
     }

@@ -10,10 +10,10 @@ returns c =
     let of_a = c.read_evidence.ensures in
     let of_b = c.read_evidence-2.ensures in
     of_bytes xs ys
-    (read mark_in xs c.requires.0 of_a.0 c.front_u8.ensures)
-    (read (count_in 1) xs c.requires.0 of_a.1.0 c.front_u32.ensures)
-    (read (count_in 5) xs c.requires.0 of_a.1.1 c.front_u32-2.ensures)
-    (read mark_in ys c.requires.1 of_b.0 c.front_u8-2.ensures)
-    (read (count_in 1) ys c.requires.1 of_b.1.0 c.front_u32-3.ensures)
-    (read (count_in 5) ys c.requires.1 of_b.1.1 c.front_u32-4.ensures)
+    (read mark_in xs c.requires.a_evidence_len_bound of_a.marks_after c.front_u8.ensures)
+    (read (count_in 1) xs c.requires.a_evidence_len_bound of_a.unconverted_after c.front_u32.ensures)
+    (read (count_in 5) xs c.requires.a_evidence_len_bound of_a.converted_after c.front_u32-2.ensures)
+    (read mark_in ys c.requires.b_evidence_len_bound of_b.marks_after c.front_u8-2.ensures)
+    (read (count_in 1) ys c.requires.b_evidence_len_bound of_b.unconverted_after c.front_u32-3.ensures)
+    (read (count_in 5) ys c.requires.b_evidence_len_bound of_b.converted_after c.front_u32-4.ensures)
     c.duplex_texts.ensures
