@@ -1,29 +1,29 @@
-"""What the two tests of must-fail edits share: an edit's form, and whether a refusal shows a fact.
+"""What the tests of must-fail edits share: an edit's form, what `rt` says of one, and whether a refusal shows a fact.
 
 An edit is wrong text for right: a `file:` line, then an `old:` line, whose text stands once in that file of the crate, and a
-`new:` line in its place; more of each may follow. crates/NAME/must-fail/*.edit are tried by `rt ci`, crates/NAME/must-fail/more/*.edit
+`new:` line in its place; more of each may follow. crates/NAME/must-fail/*.edit are tried by `rt ci`, crates/NAME/more-edits/*.edit
 by tests/more-edits.
 """
 import re
 
+# A line of `rt ci` or `rt must-fail`: the crate, the edit's file, what came of it, in brackets what the refusal lacks, and the first thing that does not hold.
+SAID = re.compile(r"^rt: must-fail (\w+)/(\S+): (refused, as it must be|[A-Z ]+)(?: \(([^)]*)\))?(?:: (.*))?$", re.M)
 # The first error of an edit that only makes the proof file unfit for the code shows nothing.
-SHAPE = re.compile(
-    r"can be named from here|Lts\.[\w-]+` has no field|cannot continue|not in scope|is not declared|unknown name|does not parse|syntax error", re.I
-)
+SHAPE = re.compile(r"can be named from here|has no field|has no `|cannot continue|not in scope|is not declared|unknown name|does not parse|syntax error|was not admitted", re.I)
 
 
 class Misfit(Exception):
     """An edit that does not apply to its crate."""
 
 
-def first_error(said):
-    """The first line of a check's output that says what does not hold, or nothing."""
-    return next((line for line in said.splitlines() if ": error" in line or "does not close" in line), "")
-
-
-def shows_fact(error):
-    """Whether a refusal's first error is a fact that no longer holds."""
-    return bool(error) and not SHAPE.search(error)
+def told(log):
+    """What `rt` said of each edit, by its crate and its file's name: whether it was refused, whether for a fact, and the line."""
+    found = {}
+    for line in SAID.finditer(log):
+        crate, edit, end, lacks, first = line.groups()
+        refused = end.startswith("refused")
+        found[crate, edit] = refused, refused and not lacks and bool(first) and not SHAPE.search(first), line[0]
+    return found
 
 
 def edited(edit, crate):
