@@ -8,8 +8,12 @@ use Rattle.vanilla_caller.proofs.max_depth.Goals as goal
 
 pub returns-then-number-ne0 : goal.returns-then-number-ne0
 unfolding max_depth depth_faults
-returns-then-number-ne0 c = answer_refused Refused _ (let number_here : c.refuse_if-number.result ≡ depth_refused c.args.depths.now = in_order _ cc in number_here) c.if-number-ne0.true
+returns-then-number-ne0 c =
+    let number : c.refuse_if-number.result ≡ depth_refused c.args.depths.now = in_order _ cc in
+    answer_refused Refused _ number c.if-number-ne0.true
 
 pub returns : goal.returns
 unfolding max_depth depth_faults
-returns c = ap Of c.largest_depth.ensures ∙ answer_passed Refused _ (let number_here : c.refuse_if-number.result ≡ depth_refused c.args.depths.now = in_order _ cc in number_here) c.if-number-ne0.false
+returns c =
+    let number : c.refuse_if-number.result ≡ depth_refused c.args.depths.now = in_order _ cc in
+    ap Of c.largest_depth.ensures ∙ answer_passed Refused _ number c.if-number-ne0.false
