@@ -10,7 +10,6 @@ use native.Mathlib.Omega.{arith}
 use borrow.Author.Tests.{le-ltb, eqb-true}
 use lib.Dec.{eqb}
 use lib.ListN.{length}
-use Rattle.lists.specs.Output.{answer}
 use Rattle.lists.proofs.Output.{answer_map}
 use Rattle.refusals.specs.Refusal.{refusal}
 use Rattle.methylation.specs.declared.MethylationMode.{MethylationMode}

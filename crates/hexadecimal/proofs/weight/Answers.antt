@@ -1,30 +1,16 @@
 -- `hexadecimal::weight` meets its contract, place by place. Assumes nothing.
 use mathlib.Core.Path.{◌≡◌}
-use Prim.Native.Nat.{ℕ, ◌-◌, ◌^◌, ◌≤◌, ◌<◌}
+use Prim.Native.Nat.{ℕ, ◌-◌, ◌^◌, ◌<◌}
 use native.Mathlib.Omega.{arith}
 use Rattle.hexadecimal.proofs.weight.Goals as goal
 
 at_place : (k : ℕ) {place : ℕ} → place ≡ k → 0 < 16 ^ (7 - k) → (16 ^ (7 - k) ≡ 16 ^ (7 - place)) × (0 < 16 ^ (7 - k))
 at_place k e h = (rw e, h)
 
-abbrev no : ℕ → ℕ → Type 0
-no k p = p ≡ k → ⊥
-
-past_3 : (p : ℕ) → no 0 p → no 1 p → no 2 p → no 3 p → 4 ≤ p
-past_3 p a b c d = omega arith
-
-past_6 : (p : ℕ) → 4 ≤ p → no 4 p → no 5 p → no 6 p → 7 ≤ p
-past_6 p h a b c = omega arith
-
 pub returns-in_default : goal.returns-in_default
 returns-in_default c =
-    let p = c.args.place in
-    let n = c.in_default.in_default-own.rest in
-    let past : 7 ≤ p = past_6 p (past_3 p n.0.0.0.0.0.0.1 n.0.0.0.0.0.1 n.0.0.0.0.1 n.0.0.0.1) n.0.0.1 n.0.1 n.1 in
-    at_place 7 (same p past c.requires) (omega arith)
-  where
-    same : (p : ℕ) → 7 ≤ p → p < 8 → p ≡ 7
-    same p h g = omega arith
+    let last : c.args.place ≡ 7 = omega arith in
+    at_place 7 last (omega arith)
 
 pub returns-in-0 : goal.returns-in-0
 returns-in-0 c = at_place 0 (omega arith) (omega arith)

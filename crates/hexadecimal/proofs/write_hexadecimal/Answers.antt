@@ -1,6 +1,6 @@
 -- `hexadecimal::write_hexadecimal` meets its contract: its loop fills the front of the output with the digits. Assumes nothing.
 use mathlib.Core.Path.{sym, ◌∙◌}
-use Prim.Native.Nat.{◌-◌, ◌<◌}
+use Prim.Native.Nat.{◌<◌}
 use native.Mathlib.Omega.{arith}
 use Rattle.lists.proofs.Output.{begin_copy, next_copy, same, fits, done}
 use Rattle.hexadecimal.specs.Hexadecimal.{hexadecimal}

@@ -1,6 +1,5 @@
 -- `line_output::print_bytes` meets its contract: its loop fills the front of the output. Assumes nothing.
 use mathlib.Core.Path.{◌∙◌}
-use Prim.Native.Nat.{◌-◌}
 use native.Mathlib.Omega.{arith}
 use Rattle.lists.proofs.Output.{begin_copy, next_copy, same, fits, done}
 use Rattle.line_output.specs.Text.{printed}

@@ -1,5 +1,4 @@
 -- `line_output::write_u8s` meets its contract: after i turns i of the numbers are written. Assumes nothing.
-use Prim.Native.Nat.{◌-◌}
 use native.Mathlib.Omega.{arith}
 use Rattle.line_output.proofs.Text.{begin, turn, done, same_size}
 use Rattle.line_output.proofs.write_u8s.Goals as goal

@@ -1,6 +1,5 @@
 -- `mm_ml::listed_length` meets its contract: after i turns it has the listed skip counts of the called positions below i. Assumes nothing.
 use mathlib.Core.Path.{refl, sym}
-use Prim.Native.Nat.{◌-◌}
 use native.Mathlib.Omega.{arith}
 use Rattle.mm_ml.specs.Tags.{annotated}
 use Rattle.mm_ml.proofs.Strand.{begin_listing, turn_listing, done_listing, short_skip, skipped_is, few_bytes}
