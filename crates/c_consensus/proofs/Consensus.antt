@@ -4,9 +4,8 @@
 use mathlib.Core.Path.{◌≡◌, refl, sym, ap, subst, ◌∙◌}
 use mathlib.Core.Bool.{Bool, true, false, cond, true≢false}
 use mathlib.Core.List.{List, [], ◌∷◌, ◌++◌}
-use Prim.Native.Nat.{ℕ, zero, suc}
+use Prim.Native.Nat.{ℕ, zero, suc, zero-le}
 use native.Mathlib.Omega.{arith}
-use borrow.Author.Rules.{zero≤}
 use borrow.Author.Tests.{eq-eqb, ne_eqb, le-ltb}
 use lib.Dec.{eqb}
 use lib.ListN.{length, take, drop, replicate}
@@ -197,7 +196,7 @@ puts e l = record {
 -- Where nothing is written, nothing is too short.
 none_short : (out : RecordLengths) → record_too_short 0 false false out ≡ false
 unfolding record_too_short
-none_short out = rw (le-ltb out.bases 0 zero≤, le-ltb out.quals 0 zero≤, le-ltb out.errors 0 zero≤)
+none_short out = rw (le-ltb out.bases 0 zero-le, le-ltb out.quals 0 zero-le, le-ltb out.errors 0 zero-le)
 
 -- Row 12, by what is written of an answer.
 same_short : (a b : Strand) (out : RecordArrays) (k : DuplexConsensus) → short_for (written_of (annotated a) (annotated b) k) out ≡ outputs_short a b out k

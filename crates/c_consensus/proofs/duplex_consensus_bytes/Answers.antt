@@ -1,7 +1,6 @@
 -- `c_consensus::duplex_consensus_bytes` meets its contract: the record's arrays, as bytes, with none for evidence where neither strand is
 -- annotated. Assumes nothing.
 use mathlib.Core.Path.{refl}
-use borrow.Author.Rules.{zero≤}
 use Rattle.refusals.proofs.Condition.{neither}
 use Rattle.methylation.specs.Methylation.{is_annotated}
 use Rattle.c_consensus.proofs.Consensus.{plain_zeros, plain_alone, plain_seen, by_strands, from_arrays}
@@ -16,24 +15,6 @@ returns c =
     let none = rw (c.is_annotated.ensures, c.is_annotated-2.ensures) at c.if-is_annotated.false in
     let (not_a, not_b) = neither (is_annotated g.a_annotation) (is_annotated g.b_annotation) none in
     by_strands
-    (plain_seen g.a-present g.a_annotation g.a_bases.now g.a_quals.now g.a_depths.now g.a_errors.now g.a-evidence.now not_a)
-    (plain_seen g.b-present g.b_annotation g.b_bases.now g.b_quals.now g.b_depths.now g.b_errors.now g.b-evidence.now not_b)
+    (plain_seen g.a_present g.a_annotation g.a_bases.now g.a_quals.now g.a_depths.now g.a_errors.now g.a_evidence.now not_a)
+    (plain_seen g.b_present g.b_annotation g.b_bases.now g.b_quals.now g.b_depths.now g.b_errors.now g.b_evidence.now not_b)
     (from_arrays _ _ _ _ _ _ plain_zeros _ _ (plain_alone _ _ _ _ refl refl) c.plain_consensus_of_bytes-made.ensures refl refl c.write_record.ensures)
-
-pub slice_bounds-no_marks-count : goal.slice_bounds-no_marks-count
-slice_bounds-no_marks-count c = zero≤
-
-pub slice_bounds-no_marks-start : goal.slice_bounds-no_marks-start
-slice_bounds-no_marks-start c = zero≤
-
-pub slice_bounds-no_marks-end : goal.slice_bounds-no_marks-end
-slice_bounds-no_marks-end c = zero≤
-
-pub slice_bounds-no_counts-count : goal.slice_bounds-no_counts-count
-slice_bounds-no_counts-count c = zero≤
-
-pub slice_bounds-no_counts-start : goal.slice_bounds-no_counts-start
-slice_bounds-no_counts-start c = zero≤
-
-pub slice_bounds-no_counts-end : goal.slice_bounds-no_counts-end
-slice_bounds-no_counts-end c = zero≤

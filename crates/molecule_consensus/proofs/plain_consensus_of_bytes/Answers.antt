@@ -3,7 +3,6 @@
 use mathlib.Core.List.{[]}
 use mathlib.Core.Path.{◌≡◌}
 use Prim.Native.Nat.{ℕ}
-use borrow.Author.Rules.{zero≤}
 use lib.ListN.{length, replicate, length-replicate}
 use Rattle.methylation.specs.declared.Annotation.TheVariants.{Absent}
 use Rattle.molecule_strand.specs.Strand.{strand_bytes}
@@ -28,38 +27,14 @@ returns c =
     c.plain_record-made.ensures
     c.count_errors.ensures
 
-pub slice_bounds-plain_record-count : goal.slice_bounds-plain_record-count
-slice_bounds-plain_record-count c = zero≤
-
-pub slice_bounds-plain_record-start : goal.slice_bounds-plain_record-start
-slice_bounds-plain_record-start c = zero≤
-
 pub slice_bounds-plain_record-end : goal.slice_bounds-plain_record-end
 slice_bounds-plain_record-end c = (numbers_fit c.read_numbers-a.ensures size size).0
-
-pub slice_bounds-plain_record-count-2 : goal.slice_bounds-plain_record-count-2
-slice_bounds-plain_record-count-2 c = zero≤
-
-pub slice_bounds-plain_record-start-2 : goal.slice_bounds-plain_record-start-2
-slice_bounds-plain_record-start-2 c = zero≤
 
 pub slice_bounds-plain_record-end-2 : goal.slice_bounds-plain_record-end-2
 slice_bounds-plain_record-end-2 c = (numbers_fit c.read_numbers-a.ensures size size).1
 
-pub slice_bounds-plain_record-count-3 : goal.slice_bounds-plain_record-count-3
-slice_bounds-plain_record-count-3 c = zero≤
-
-pub slice_bounds-plain_record-start-3 : goal.slice_bounds-plain_record-start-3
-slice_bounds-plain_record-start-3 c = zero≤
-
 pub slice_bounds-plain_record-end-3 : goal.slice_bounds-plain_record-end-3
 slice_bounds-plain_record-end-3 c = (numbers_fit c.read_numbers-b.ensures size size).0
-
-pub slice_bounds-plain_record-count-4 : goal.slice_bounds-plain_record-count-4
-slice_bounds-plain_record-count-4 c = zero≤
-
-pub slice_bounds-plain_record-start-4 : goal.slice_bounds-plain_record-start-4
-slice_bounds-plain_record-start-4 c = zero≤
 
 pub slice_bounds-plain_record-end-4 : goal.slice_bounds-plain_record-end-4
 slice_bounds-plain_record-end-4 c = (numbers_fit c.read_numbers-b.ensures size size).1
