@@ -15,7 +15,7 @@ use lib.Dec.{eqb}
 use lib.ListN.{length}
 use borrow.Author.Tests.{ltb-false, eqb-true, eqb-false}
 use Rattle.lists.specs.Output.{unless, answer}
-use Rattle.refusals.specs.Refusal.{Fault, ◌if◌, refusal, refuse_if, OutputTooShort}
+use Rattle.refusals.specs.Refusal.{◌if◌, refusal, refuse_if, OutputTooShort}
 use Rattle.refusals.proofs.Condition.{neither}
 use Rattle.refusals.proofs.Refusal.{and_then}
 use Rattle.methylation.specs.Methylation.{is_annotated}

@@ -14,7 +14,7 @@ use Rattle.lists.specs.Part.{part}
 use Rattle.lists.proofs.Between.{part_between}
 use Rattle.lists.proofs.Output.{put_fitting}
 use Rattle.methylation.specs.declared.MethylationMode.{MethylationMode}
-use Rattle.duplex_texts.specs.Texts.{Strand, TextArrays, duplex_seq, strand_mm, strand_ml, second_first, grouped, duplex_texts}
+use Rattle.duplex_texts.specs.Texts.{Strand, TextArrays, duplex_seq, strand_mm, strand_ml, second_first, duplex_texts}
 use Rattle.duplex_texts.specs.Outputs.{text_lengths, RoomTexts, LeavesTexts}
 use Rattle.duplex_texts.specs.Parts.{MadeAs, second_at, second_ml_at, seq_at, TextsPut, needed_for}
 use Rattle.duplex_texts.specs.declared.BothLengths.{BothLengths}

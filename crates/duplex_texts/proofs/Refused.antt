@@ -13,7 +13,6 @@ use Rattle.refusals.specs.Refusal.{Fault, refusal, ragged, TooLong, Ragged, Outp
 use Rattle.refusals.proofs.Refusal.{and_then, passed}
 use Rattle.refusals.proofs.Condition.{Every, not_ragged, neither}
 use Rattle.methylation.specs.Methylation.{is_annotated}
-use Rattle.methylation.specs.declared.Annotation.{Annotation}
 use Rattle.methylation.specs.declared.MethylationMode.{MethylationMode}
 use Rattle.methylation.specs.Arrays.{evidence_lengths, three}
 use Rattle.duplex_texts.specs.Texts.{Strand, TextArrays, duplex_texts}

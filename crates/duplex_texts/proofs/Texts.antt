@@ -13,7 +13,7 @@ use Prim.Native.Nat.{ℕ, ◌+◌, ◌-◌, ◌*◌, ◌≤◌}
 use native.Mathlib.Nat.{sub-zero, add_comm}
 use native.Mathlib.Omega.{arith}
 use borrow.Rule.Slice.PartMut.{put_mid, mid_of}
-use lib.ListN.{length, take, drop, length-append}
+use lib.ListN.{length, take, length-append}
 use lib.Seq.{drop-append_seam, take_all}
 use Rattle.lists.specs.Output.{unless, answer, put, after}
 use Rattle.lists.proofs.Between.{put_behind}

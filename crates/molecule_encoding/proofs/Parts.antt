@@ -19,11 +19,9 @@ use Rattle.refusals.proofs.Condition.{both_hold, neither}
 use Rattle.fields.specs.Encoding.{Field, encoded_field, encoded, Short, Fields, fields, fields_of, whole_fields}
 use Rattle.fields.proofs.Fields.{read_back}
 use Rattle.molecule_fields.specs.Widths.{strand_tag, known_tag, length_fits, bits_fit, well_formed, is_read}
-use Rattle.molecule_encoding.specs.Format.{follows, ascend_after, ascending, has, valid, whole_strand, annotated_strand, announced, absent, span, span_from, span_of, strand_of, reads_after, molecule, value_at}
+use Rattle.molecule_encoding.specs.Format.{follows, ascend_after, ascending, has, valid, whole_strand, annotated_strand, announced, absent, span_from, span_of, strand_of, reads_after, molecule, value_at}
 use Rattle.molecule_encoding.specs.Claims.{EncodesMolecule, with_tag, PartIs, Holds}
 use Rattle.molecule_encoding.specs.declared.Span.{Span}
-use Rattle.molecule_encoding.specs.declared.Molecule.{Molecule}
-use Rattle.molecule_encoding.specs.declared.Decoded.TheVariants.{Of}
 use Rattle.molecule_encoding.proofs.Spans.{past, span_present}
 use Rattle.molecule_encoding.proofs.Accepted.{reads_present}
 use Rattle.molecule_encoding.proofs.Claims.{absent_value, span_value, accepts}

@@ -9,9 +9,7 @@ use Rattle.std.specs.Prelude.{◌≡◌, ℕ, ◌≤◌, true, cond, List, [], �
 use Rattle.fields.specs.Encoding.{Field, Encodes, IsBytes, encoded, whole_fields}
 use Rattle.molecule_encoding.specs.Format.{has, valid, molecule, decoded, value_of, value_at}
 use Rattle.molecule_encoding.specs.declared.Span.{Span}
-use Rattle.molecule_encoding.specs.declared.StrandFields.{StrandFields}
 use Rattle.molecule_encoding.specs.declared.Molecule.{Molecule}
-use Rattle.molecule_encoding.specs.declared.Decoded.{Decoded}
 use Rattle.molecule_encoding.specs.declared.Decoded.TheVariants.{Refused, Of}
 
 -- Bytes that the format allows for some fields.

@@ -5,7 +5,7 @@ use mathlib.Core.List.{List, [], ◌∷◌}
 use Prim.Native.Nat.{ℕ}
 use lib.Dec.{eqb}
 use borrow.Author.Tests.{eq-eqb}
-use Rattle.refusals.specs.Refusal.{Row, Broken, NoThresholds, TooManyThresholds, XyAboveTotal, YxAboveXy, TooLong, Ragged, TooManyReads, PartOutside, BelowLength, OutputTooShort, NoMi, NoStrand, Fault, code, of_code, refusal}
+use Rattle.refusals.specs.Refusal.{Row, Broken, NoThresholds, TooManyThresholds, XyAboveTotal, YxAboveXy, TooLong, Ragged, TooManyReads, PartOutside, BelowLength, OutputTooShort, NoMi, NoStrand, Fault, code, of_code}
 use Rattle.refusals.specs.Claims.{EachOnce, Clear, NoneLost}
 use Rattle.refusals.proofs.Refusal.{passed}
 

@@ -1,6 +1,5 @@
 -- `byte_numbers::read_u32s` meets its contract: its loop fills the front of the output with the numbers. Assumes nothing.
 use mathlib.Core.Path.{◌∙◌}
-use Prim.Native.Nat.{◌-◌}
 use native.Mathlib.Omega.{arith}
 use Rattle.lists.proofs.Output.{same, fits, done}
 use Rattle.byte_numbers.specs.Bytes.{number_of}

@@ -1,5 +1,4 @@
 -- `byte_numbers::write_u32s` meets its contract: its loop writes the bytes of one number after another. Assumes nothing.
-use Prim.Native.Nat.{◌-◌}
 use Rattle.byte_numbers.specs.Bytes.{bytes_of, bytes_of_all}
 use Rattle.byte_numbers.proofs.Bytes.{length_bytes}
 use Rattle.byte_numbers.proofs.Groups.{same_join, join_room, begin_write, next_write, done_write}

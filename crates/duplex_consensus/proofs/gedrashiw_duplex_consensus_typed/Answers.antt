@@ -1,7 +1,6 @@
 -- `duplex_consensus::gedrashiw_duplex_consensus_typed` meets its contract: what is made without the list is as it is promised once the
 -- list's errors are counted, and the entry replies by its test of the strands. Assumes nothing.
 use mathlib.Core.Path.{ap, ◌∙◌}
-use mathlib.Core.List.{List}
 use Rattle.replies.specs.Choices.{yes, annotation_of}
 use Rattle.vanilla_caller.specs.Strand.{Arrays, arrays}
 use Rattle.duplex_molecule.specs.declared.CtInput.{CtInput}

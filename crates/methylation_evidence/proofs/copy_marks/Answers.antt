@@ -1,5 +1,4 @@
 -- `methylation_evidence::copy_marks` meets its contract: its loop fills the front of the output with the marks, 0 or 1. Assumes nothing.
-use Prim.Native.Nat.{◌-◌}
 use lib.ListN.{length-map, get_or-map}
 use Rattle.lists.proofs.Output.{begin_copy, next_copy, same, fits, done}
 use Rattle.vanilla_caller.specs.Strand.{mark}

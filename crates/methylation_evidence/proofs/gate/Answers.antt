@@ -1,5 +1,4 @@
 -- `methylation_evidence::gate` meets its contract: its loop gates each array in place. Assumes nothing.
-use Prim.Native.Nat.{◌-◌}
 use Rattle.lists.proofs.Output.{same, fits}
 use Rattle.methylation_evidence.proofs.Gating.{begin_gate, next_gate, done_gate}
 use Rattle.methylation_evidence.proofs.gate.Goals as goal

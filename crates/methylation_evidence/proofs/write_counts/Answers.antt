@@ -1,5 +1,4 @@
 -- `methylation_evidence::write_counts` meets its contract: its loop fills the output with the counts, each held. Assumes nothing.
-use Prim.Native.Nat.{◌-◌}
 use mathlib.Core.Path.{◌∙◌}
 use Rattle.lists.proofs.Output.{begin, same, fits, next, done}
 use Rattle.methylation_evidence.proofs.Counts.{counts_length, count_at}

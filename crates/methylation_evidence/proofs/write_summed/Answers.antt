@@ -1,5 +1,4 @@
 -- `methylation_evidence::write_summed` meets its contract: its loop fills the output with the summed counts. Assumes nothing.
-use Prim.Native.Nat.{◌-◌}
 use Rattle.lists.proofs.Output.{same, fits, done}
 use Rattle.lists.proofs.Told.{begin_table, next_table}
 use Rattle.methylation_evidence.specs.Counts.{summed_count, summed_counts}

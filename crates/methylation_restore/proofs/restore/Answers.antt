@@ -1,5 +1,4 @@
 -- `methylation_restore::restore` meets its contract: its loop restores the bases in place. Assumes nothing.
-use Prim.Native.Nat.{◌-◌}
 use native.Mathlib.Omega.{arith}
 use Rattle.lists.proofs.Output.{same, fits, done}
 use Rattle.lists.proofs.Told.{begin_table, next_table}

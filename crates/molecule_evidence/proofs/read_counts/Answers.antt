@@ -1,6 +1,5 @@
 -- `molecule_evidence::read_counts` meets its contract: its loop fills the front of the output with the counts. Assumes nothing.
 use mathlib.Core.Path.{◌∙◌}
-use Prim.Native.Nat.{◌-◌}
 use native.Mathlib.Omega.{arith}
 use Rattle.lists.proofs.Output.{same, fits, done}
 use Rattle.byte_numbers.proofs.Groups.{begin_read, read_within, read_room, next_read_lem}

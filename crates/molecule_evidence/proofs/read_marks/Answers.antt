@@ -1,5 +1,4 @@
 -- `molecule_evidence::read_marks` meets its contract: its loop fills the front of the output with the marks. Assumes nothing.
-use Prim.Native.Nat.{◌-◌}
 use native.Mathlib.Omega.{arith}
 use Rattle.lists.proofs.Output.{same, fits, done}
 use Rattle.byte_numbers.proofs.Groups.{begin_read, read_within, read_room, next_read_lem}

@@ -1,8 +1,7 @@
 -- `molecule_evidence::write_evidence` meets its contract: its loop writes the bytes of one position after another. Assumes nothing.
 use mathlib.Core.Path.{◌≡◌}
 use mathlib.Core.List.{List}
-use Prim.Native.Nat.{ℕ, ◌-◌}
-use lib.ListN.{get_or}
+use Prim.Native.Nat.{ℕ}
 use lib.Seq.{sets}
 use Rattle.byte_numbers.proofs.Groups.{same_join, join_room, begin_write, next_write, done_write}
 use Rattle.molecule_evidence.specs.Evidence.{position_bytes, evidence_bytes}

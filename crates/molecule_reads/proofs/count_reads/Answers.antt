@@ -1,6 +1,5 @@
 -- `molecule_reads::count_reads` meets its contract: the reads passed are counted. Assumes nothing.
 use mathlib.Core.Path.{sym, ◌∙◌}
-use Prim.Native.Nat.{◌-◌}
 use native.Mathlib.Omega.{arith}
 use Rattle.molecule_reads.proofs.Run.{run_end, run_broken, run_next}
 use Rattle.molecule_reads.proofs.Counting.{begin, one_more, done}

@@ -1,6 +1,5 @@
 -- `molecule_reads::count_shown_run` meets its contract: the errors of the reads passed are added. Assumes nothing.
 use mathlib.Core.Path.{sym, ◌∙◌}
-use Prim.Native.Nat.{◌-◌}
 use native.Mathlib.Omega.{arith}
 use Rattle.molecule_reads.proofs.Run.{run_end, run_broken, run_next}
 use Rattle.molecule_reads.proofs.Errors as Errors

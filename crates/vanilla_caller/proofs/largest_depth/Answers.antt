@@ -1,5 +1,5 @@
 -- `vanilla_caller::largest_depth` meets its contract: after i turns it has the largest of the first i depths. Assumes nothing.
-use Prim.Native.Nat.{◌-◌, max}
+use Prim.Native.Nat.{max}
 use native.Mathlib.Omega.{arith}
 use mathlib.Core.Path.{refl, ◌∙◌}
 use Rattle.lists.proofs.Fold.{fold_next, fold_all}

@@ -1,5 +1,5 @@
 -- `vanilla_caller::smallest_depth` meets its contract: after i turns it has the smallest of the first depth and of the first i. Assumes nothing.
-use Prim.Native.Nat.{◌-◌, min}
+use Prim.Native.Nat.{min}
 use native.Mathlib.Omega.{arith}
 use mathlib.Core.Path.{◌∙◌}
 use lib.ListN.{get_or}

@@ -1,5 +1,4 @@
 -- `lists::u16s::copy_u16` meets its contract: its loop fills the front of the output. Assumes nothing.
-use Prim.Native.Nat.{◌-◌}
 use Rattle.lists.proofs.Output.{begin_copy, next_copy, same, fits, done}
 use Rattle.lists.proofs.u16s.copy_u16.Goals as goal
 

@@ -1,5 +1,4 @@
 -- `lists::u16s::fill_u16` meets its contract: its loop fills the whole output. Assumes nothing.
-use Prim.Native.Nat.{◌-◌}
 use Rattle.lists.proofs.Output.{begin_fill, next_fill, done_fill, same, fits}
 use Rattle.lists.proofs.u16s.fill_u16.Goals as goal
 

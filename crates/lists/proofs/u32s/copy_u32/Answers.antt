@@ -1,5 +1,4 @@
 -- `lists::u32s::copy_u32` meets its contract: its loop fills the front of the output. Assumes nothing.
-use Prim.Native.Nat.{◌-◌}
 use Rattle.lists.proofs.Output.{begin_copy, next_copy, same, fits, done}
 use Rattle.lists.proofs.u32s.copy_u32.Goals as goal
 

@@ -1,5 +1,4 @@
 -- `lists::u8s::copy_u8` meets its contract: its loop fills the front of the output. Assumes nothing.
-use Prim.Native.Nat.{◌-◌}
 use Rattle.lists.proofs.Output.{begin_copy, next_copy, same, fits, done}
 use Rattle.lists.proofs.u8s.copy_u8.Goals as goal
 
