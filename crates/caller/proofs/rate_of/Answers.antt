@@ -1,5 +1,5 @@
 -- `caller::rate_of` meets its contract: after i turns it has the sums of the first i depths and errors, at most 65,535 for each. Assumes nothing.
-use Prim.Native.Nat.{◌≤◌}
+use Prim.Native.Nat.{◌≤◌, ◌+◌}
 use native.Mathlib.Omega.{arith}
 use mathlib.Core.Path.{refl, ap₂, ◌∙◌}
 use lib.ListN.{length}
