@@ -1,6 +1,6 @@
--- What is promised of a call from bytes to bytes, by what the calls below leave: `from-arrays`. The arrays between them have 1,024
--- places, so that row 12 refuses only for the bytes; where neither strand is annotated there are none for evidence (`plain-alone`), and
--- none is looked at (`plain-seen`). Assumes nothing.
+-- What is promised of a call from bytes to bytes, by what the calls below leave: `from_arrays`. The arrays between them have 1,024
+-- places, so that row 12 refuses only for the bytes; where neither strand is annotated there are none for evidence (`plain_alone`), and
+-- none is looked at (`plain_seen`). Assumes nothing.
 use mathlib.Core.Path.{◌≡◌, refl, sym, ap, subst, ◌∙◌}
 use mathlib.Core.Bool.{Bool, true, false, cond, true≢false}
 use mathlib.Core.List.{List, [], ◌∷◌, ◌++◌}

@@ -1,7 +1,7 @@
 -- What is promised of the entry, by its test of the byte counts and what the calls below answered.
---     of-counts, of-shown     a strand by what the code has of it
+--     of_counts, of_shown     a strand by what the code has of it
 --     Tested          what its test of the byte counts says; tested: and that it says so
---     few-depths      depths that row 7 does not refuse fit an array
+--     few_depths      depths that row 7 does not refuse fit an array
 --     turned_down     refused by row 13 or 7
 --     passed_on       passed by them: what is said of the strands that the bytes stand for
 -- Assumes nothing.

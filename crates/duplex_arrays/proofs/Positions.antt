@@ -1,7 +1,7 @@
 -- What the loops over positions write, element by element.
---     bases-length, quals-length, estimates-length
---     base-at, qual-at, estimate-at
---     without-calls                 where there may be no calls, neither strand is the C-to-T one
+--     bases_length, quals_length, estimates_length
+--     base_at, qual_at, estimate_at
+--     without_calls                 where there may be no calls, neither strand is the C-to-T one
 --     zeroed                        so many zeros filled in
 -- Assumes nothing.
 use mathlib.Core.Path.{◌≡◌, refl, ap, ◌∙◌}

@@ -1,6 +1,6 @@
 -- What is written where arrays may be too short.
---     reached, long-enough              no array is too short: each has n elements
---     nothing_written, all-written      what is written then, for the code
+--     reached, long_enough              no array is too short: each has n elements
+--     nothing_written, all_written      what is written then, for the code
 --     put_all                           for a caller whose arrays are long enough
 -- Assumes nothing.
 use mathlib.Core.Path.{◌≡◌, refl}

@@ -1,7 +1,7 @@
 -- Where combining is not refused, the arrays reach as far as the record, and the outputs have room for it.
 --     room                                        of each length
---     plain-enough, called-enough                 for base and quality, without calls and with
---     errors-enough, first-enough, second-enough  for the errors, and for the evidence of A and of B
+--     plain_enough, called_enough                 for base and quality, without calls and with
+--     errors_enough, first_enough, second_enough  for the errors, and for the evidence of A and of B
 -- Assumes nothing.
 use mathlib.Core.Path.{◌≡◌, refl, sym}
 use mathlib.Core.Bool.{true, false, true≢false}

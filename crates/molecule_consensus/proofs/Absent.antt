@@ -1,8 +1,8 @@
--- Of an absent strand nothing but its annotation counts: `absent-first` and `absent-second`, whatever its arrays and what would be
+-- Of an absent strand nothing but its annotation counts: `absent_first` and `absent_second`, whatever its arrays and what would be
 -- counted by them. Assumes nothing.
 use mathlib.Core.Path.{◌≡◌, refl, ap, subst, ◌∙◌}
 use mathlib.Core.Bool.{Bool, true, false, cond}
-use mathlib.Core.List.{List, [], ◌∷◌, ◌++◌}
+use mathlib.Core.List.{[], ◌∷◌, ◌++◌}
 use Prim.Native.Nat.{ℕ}
 use Rattle.lists.specs.Output.{answer}
 use Rattle.refusals.specs.Refusal.{◌if◌, refusal, OutputTooShort}

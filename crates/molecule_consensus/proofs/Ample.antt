@@ -1,6 +1,6 @@
 -- Where every output has 1,024 places, row 12 refuses none: a record that row 7 does not refuse has no more positions.
---     Ample            every output has; zeros-ample: as a call begins with local ones
---     inputs-alone     what refuses the call is what refuses its inputs
+--     Ample            every output has; zeros_ample: as a call begins with local ones
+--     inputs_alone     what refuses the call is what refuses its inputs
 -- Assumes nothing.
 use mathlib.Core.Path.{◌≡◌, refl}
 use mathlib.Core.Bool.{Bool, true, false, cond, ◌&&◌, ◌||◌}

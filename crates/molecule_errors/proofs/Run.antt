@@ -1,5 +1,5 @@
 -- What a call leaves by the run that it is given.
---     not-counted              a count that is asked for no positions
+--     not_counted_lem          a count that is asked for no positions
 --     made_as                  the record that was made, and the errors counted after it, are the record with the run's errors
 -- Assumes nothing.
 use mathlib.Core.Path.{◌≡◌, refl, sym, ap, subst, ◌∙◌}

@@ -1,5 +1,5 @@
 -- The base of a position by the quality before it is held, which is low exactly where a reason by quality holds.
---     shows-n         a position shows N exactly where its answer is one of the seven reasons
+--     shows_n         a position shows N exactly where its answer is one of the seven reasons
 -- Assumes nothing.
 use mathlib.Core.Path.{◌≡◌, refl, sym, ap, ◌∙◌}
 use mathlib.Core.Bool.{Bool, true, false, cond, not, ◌&&◌, ◌||◌, true≢false}

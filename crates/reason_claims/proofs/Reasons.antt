@@ -1,10 +1,10 @@
 -- The claims about a record's positions.
---     kind-again              what the combination made is what the answer goes by
---     n-exactly-when-a-reason, elsewhere, worked      the claims
+--     kind_again              what the combination made is what the answer goes by
+--     n_exactly_when_a_reason, elsewhere, worked      the claims
 -- Assumes nothing.
 use mathlib.Core.Path.{◌≡◌, refl, sym, ap, subst, ◌∙◌}
 use mathlib.Core.Logic.{◌↔◌}
-use mathlib.Core.Bool.{Bool, true, false, ◌||◌}
+use mathlib.Core.Bool.{true, false, ◌||◌}
 use mathlib.Core.List.{List}
 use Prim.Native.Nat.{ℕ, zero, suc, ◌<◌}
 use lib.Dec.{eqb}
@@ -26,7 +26,6 @@ use Rattle.duplex_kind.proofs.Kind.{taken}
 use Rattle.duplex_record.specs.Record.{record_arrays, duplex_faults, duplex_refused}
 use Rattle.duplex_reason.specs.Reason.{called_by, holds, reason_at, is_reason}
 use Rattle.duplex_reason.specs.Record.{shown_at, reason_in, reason_of}
-use Rattle.duplex_reason.specs.declared.NoCallReason.{NoCallReason}
 use Rattle.duplex_reason.specs.declared.NoCallReason.TheVariants.{Called}
 use Rattle.reason_claims.specs.Reasons.{Made, NExactlyWhenAReason, Elsewhere, Worked}
 use Rattle.reason_claims.proofs.Conditions.{only_reasons}

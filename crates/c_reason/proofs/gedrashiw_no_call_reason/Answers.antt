@@ -1,7 +1,7 @@
 -- `c_reason::gedrashiw_no_call_reason` meets its contract: rows 13 and 7 by the byte counts, all else by the strands that the bytes stand
 -- for. Assumes nothing.
 use Rattle.replies.specs.Choices.{yes}
-use Rattle.molecule_strand.specs.Strand.{strand_bytes, annotation_of, wrong_pattern}
+use Rattle.molecule_strand.specs.Strand.{strand_bytes, annotation_of}
 use Rattle.c_interface.specs.Entry.{told}
 use Rattle.c_reason.proofs.Bytes.{of_counts, of_shown, tested, few_depths, turned_down, passed_on}
 use Rattle.c_reason.proofs.gedrashiw_no_call_reason.Goals as goal

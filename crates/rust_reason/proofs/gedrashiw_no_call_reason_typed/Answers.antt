@@ -17,6 +17,7 @@ use Rattle.rust_reason.proofs.gedrashiw_no_call_reason_typed.Goals as goal
 module _ (p q : Bool) {s t : Bool} (first : s ≡ p) (second : t ≡ q) {r : Reason} where
   turned_down : (a b : Strand) (i : ℕ) → (s || t) ≡ true → r ≡ reason_for (Refused 13) → r ≡ reason_for (entry_reason (p || q) a b i)
   turned_down a b i h e = rw (← first, ← second, h) e
+
   passed_on :
       (one other : Bool) {x y m n : Annotation} (a b : Arrays) (i : ℕ) {answer : NoCallReason}
       → (s || t) ≡ false
