@@ -40,7 +40,7 @@ use Rattle.line_format.specs.Line.{line_text}
 use Rattle.line_record.specs.declared.Line.{Line}
 use Rattle.line_molecule.specs.Line.{text_of, TextIn}
 use Rattle.honest_rates.specs.Text.{column, numbers_in}
-use Rattle.honest_rates.specs.HonestRates.{Own, word, text, Returned, floats, in_bits_lem, in_bytes, for_c, in_reply, printed, Rate, aE, bE, cE, bits, Measured, measured, from_numbers, from_bytes, from_molecule, over, errors_of, depths_of, error_sum, depth_sum, EqualRates, CloseRates}
+use Rattle.honest_rates.specs.HonestRates.{Own, word, text, Returned, floats, as_bits, in_bytes, for_c, in_reply, printed, Rate, aE, bE, cE, bits, Measured, measured, from_numbers, from_bytes, from_molecule, over, errors_of, depths_of, error_sum, depth_sum, EqualRates, CloseRates}
 use Rattle.honest_rates.proofs.Text.{column_bases, column_errors, column_a_e, column_b_e, column_c_e, numbers_back}
 use Rattle.honest_rates.proofs.Line.{kind_in, IsRecord, record_printed}
 use Rattle.honest_rates.proofs.Bytes.{word_at}
@@ -212,9 +212,9 @@ behind_bits : (x : Returned) (p : Rate) → bits x p ≡ behind (over x) p
 behind_bits (floats x r e) aE = float_bits x r (sym e) aE
 behind_bits (floats x r e) bE = float_bits x r (sym e) bE
 behind_bits (floats x r e) cE = float_bits x r (sym e) cE
-behind_bits (in_bits_lem x r e) aE = word_bits x r (sym e) aE
-behind_bits (in_bits_lem x r e) bE = word_bits x r (sym e) bE
-behind_bits (in_bits_lem x r e) cE = word_bits x r (sym e) cE
+behind_bits (as_bits x r e) aE = word_bits x r (sym e) aE
+behind_bits (as_bits x r e) bE = word_bits x r (sym e) bE
+behind_bits (as_bits x r e) cE = word_bits x r (sym e) cE
 behind_bits (in_bytes x before after e) aE = place_bits x before after e aE
 behind_bits (in_bytes x before after e) bE = place_bits x before after e bE
 behind_bits (in_bytes x before after e) cE = place_bits x before after e cE

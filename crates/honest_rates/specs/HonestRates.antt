@@ -50,7 +50,7 @@ pub data Returned : Type 0 where
   -- `duplex_metrics`, rates as floats
   floats : (given : Input) (r : MetricsRecord) → Of r ≡ metrics_of given → Returned
   -- `metrics_bits`
-  in_bits_lem : (given : Input) (r : MetricsBits) → Of-bits r ≡ metrics_words (metrics_of given) → Returned
+  as_bits : (given : Input) (r : MetricsBits) → Of-bits r ≡ metrics_words (metrics_of given) → Returned
   -- `metrics_of_bytes`, accepted: arrays as bytes, its output before the call and after it
   in_bytes : (given : Input) (before after : List ℕ) → MetricsEntry (seen given) before after 0 → Returned
   -- `gedrashiw_metrics`, accepted
@@ -78,9 +78,9 @@ abbrev pub bits : Returned → Rate → ℕ
 bits (floats given r e) aE = to_bits binary32 r.aE
 bits (floats given r e) bE = to_bits binary32 r.bE
 bits (floats given r e) cE = to_bits binary32 r.cE
-bits (in_bits_lem given r e) aE = r.aE
-bits (in_bits_lem given r e) bE = r.bE
-bits (in_bits_lem given r e) cE = r.cE
+bits (as_bits given r e) aE = r.aE
+bits (as_bits given r e) bE = r.bE
+bits (as_bits given r e) cE = r.cE
 bits (in_bytes given before after e) aE = number_of (take 4 (drop 8 after))
 bits (in_bytes given before after e) bE = number_of (take 4 (drop 20 after))
 bits (in_bytes given before after e) cE = number_of (take 4 (drop 32 after))
@@ -126,7 +126,7 @@ from_molecule bytes both n errors = measured (field bytes 0x12 n) (field bytes 0
 -- Those that a call went over. A printed record has as many positions as its line has bases, and the errors that its line has.
 abbrev pub over : Returned → Measured
 over (floats given r e) = from_numbers given
-over (in_bits_lem given r e) = from_numbers given
+over (as_bits given r e) = from_numbers given
 over (in_bytes given before after e) = from_bytes given.a given.a_errors given.second given.b given.b_errors given.errors
 over (for_c a ae second b be bases errors before after e) = from_bytes a ae (yes second) b be errors
 over (in_reply a ae second b be bases errors r e f) = from_numbers (input a ae (yes second) b be bases errors)
