@@ -13,32 +13,32 @@ loop-i-init c =
 pub add_read-requires : goal.add_read-requires
 add_read-requires c =
     let known : Known (wrong_pattern c.args.pattern) (setting (pattern_of c.args.pattern) c.args.bytes.now c.args.reference.now c.args.aligned.now (yes c.args.count_all_positions)) c.args.reads.now c.args.consensus_len (evidence_arrays c.args.marks_out.now c.args.unconverted_out.now c.args.converted_out.now) c.list_leaves-leaving.result c.begin_annotation-number.result c.reads_to_add-n.result c.begin_annotation-number.new.marks_out =
-        record {
-          leaves = c.list_leaves-leaving.ensures;
-          refused = c.begin_annotation-number.ensures.answered;
-          marks = c.begin_annotation-number.ensures.left.marks;
-          many_are = c.reads_to_add-n.ensures;
-        } in
+    record {
+      leaves = c.list_leaves-leaving.ensures;
+      refused = c.begin_annotation-number.ensures.answered;
+      marks = c.begin_annotation-number.ensures.left.marks;
+      many_are = c.reads_to_add-n.ensures;
+    } in
     turn_asks (wrong_pattern c.args.pattern) (setting (pattern_of c.args.pattern) c.args.bytes.now c.args.reference.now c.args.aligned.now (yes c.args.count_all_positions)) c.args.reads.now c.args.consensus_len (evidence_arrays c.args.marks_out.now c.args.unconverted_out.now c.args.converted_out.now) known c.loop-i.invariant c.loop-i-test.true
 
 pub loop-i-preserved : goal.loop-i-preserved
 loop-i-preserved c =
     let known : Known (wrong_pattern c.args.pattern) (setting (pattern_of c.args.pattern) c.args.bytes.now c.args.reference.now c.args.aligned.now (yes c.args.count_all_positions)) c.args.reads.now c.args.consensus_len (evidence_arrays c.args.marks_out.now c.args.unconverted_out.now c.args.converted_out.now) c.list_leaves-leaving.result c.begin_annotation-number.result c.reads_to_add-n.result c.begin_annotation-number.new.marks_out =
-        record {
-          leaves = c.list_leaves-leaving.ensures;
-          refused = c.begin_annotation-number.ensures.answered;
-          marks = c.begin_annotation-number.ensures.left.marks;
-          many_are = c.reads_to_add-n.ensures;
-        } in
+    record {
+      leaves = c.list_leaves-leaving.ensures;
+      refused = c.begin_annotation-number.ensures.answered;
+      marks = c.begin_annotation-number.ensures.left.marks;
+      many_are = c.reads_to_add-n.ensures;
+    } in
     next_turn (wrong_pattern c.args.pattern) (setting (pattern_of c.args.pattern) c.args.bytes.now c.args.reference.now c.args.aligned.now (yes c.args.count_all_positions)) c.args.reads.now c.args.consensus_len (evidence_arrays c.args.marks_out.now c.args.unconverted_out.now c.args.converted_out.now) known c.loop-i.invariant c.loop-i-test.true c.add_read.ensures c.add_read.auto.unconverted_out c.add_read.auto.converted_out
 
 pub returns : goal.returns
 returns c =
     let known : Known (wrong_pattern c.args.pattern) (setting (pattern_of c.args.pattern) c.args.bytes.now c.args.reference.now c.args.aligned.now (yes c.args.count_all_positions)) c.args.reads.now c.args.consensus_len (evidence_arrays c.args.marks_out.now c.args.unconverted_out.now c.args.converted_out.now) c.list_leaves-leaving.result c.begin_annotation-number.result c.reads_to_add-n.result c.begin_annotation-number.new.marks_out =
-        record {
-          leaves = c.list_leaves-leaving.ensures;
-          refused = c.begin_annotation-number.ensures.answered;
-          marks = c.begin_annotation-number.ensures.left.marks;
-          many_are = c.reads_to_add-n.ensures;
-        } in
+    record {
+      leaves = c.list_leaves-leaving.ensures;
+      refused = c.begin_annotation-number.ensures.answered;
+      marks = c.begin_annotation-number.ensures.left.marks;
+      many_are = c.reads_to_add-n.ensures;
+    } in
     told (wrong_pattern c.args.pattern) (setting (pattern_of c.args.pattern) c.args.bytes.now c.args.reference.now c.args.aligned.now (yes c.args.count_all_positions)) c.args.reads.now c.args.consensus_len (evidence_arrays c.args.marks_out.now c.args.unconverted_out.now c.args.converted_out.now) known c.loop-i.invariant c.loop-i-test.false c.simplex_answer.ensures

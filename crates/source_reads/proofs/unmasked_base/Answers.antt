@@ -25,6 +25,7 @@ raw a qa b qb = go (eqb a b) refl
     either : (l : Bool) → a ≡ b → cond l b a ≡ a
     either true e = sym e
     either false e = refl
+
     go : (equal : Bool) → eqb a b ≡ equal → cond (ltb qa qb) b a ≡ (cond equal (masked a b a (agreed qa qb)) (masked a b (cond (ltb qa qb) b a) (disagreed qa qb))).raw
     go true e = either (ltb qa qb) (eqb-true a b e) ∙ sym (raw_of a b a (agreed qa qb))
     go false e = sym (raw_of a b (cond (ltb qa qb) b a) (disagreed qa qb))
