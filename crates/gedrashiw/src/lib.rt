@@ -1,5 +1,6 @@
 // The library for C programs: each export calls the function of the same name of the crate below and states its clauses again, word for
-// word. This crate owns nothing but the names that a program links to.
+// word. This crate owns nothing but the names that a program links to. Uses the crates that have entry points, and those whose definitions
+// their clauses cite.
 #![tactic(auto)]
 
 mod bytes;
