@@ -1,6 +1,6 @@
 -- A count over the errors of a record.
---     none-asked      of no positions: it leaves all as it was
---     from-zeros      of n positions that were left 0: how many reads are errors at each
+--     none_asked      of no positions: it leaves all as it was
+--     from_zeros      of n positions that were left 0: how many reads are errors at each
 -- Assumes nothing.
 use mathlib.Core.Path.{◌≡◌, ap, ◌∙◌}
 use mathlib.Core.List.{List, [], ◌∷◌, foldl}

@@ -1,6 +1,6 @@
 -- What the call that makes the record and the count after it leave together.
---     with-errors    a record with other errors
---     counted-as     the record as it is promised, where the errors of a record of two strands with a list were left 0 and then
+--     with_errors    a record with other errors
+--     counted_as     the record as it is promised, where the errors of a record of two strands with a list were left 0 and then
 --                    counted, and all others were left as they were
 -- Assumes nothing.
 use mathlib.Core.Path.{◌≡◌, refl, sym, ap, ◌∙◌}

@@ -1,7 +1,7 @@
 -- Laws of what is written to a lent output, place by place, and of counts that one more read is added to.
---     Adding                     the invariant of a loop that adds one more where a position is met: start, few, further, all-added
---     fewer-places               positions that are not met need no store
---     one-read-more              one more read, of counts that are a table
+--     Adding                     the invariant of a loop that adds one more where a position is met: start, few, further, all_added
+--     fewer_places               positions that are not met need no store
+--     one_read_more              one more read, of counts that are a table
 -- Assumes nothing.
 use mathlib.Core.Path.{◌≡◌, refl, sym, ap, ◌∙◌}
 use mathlib.Core.Bool.{Bool, true, false, cond}

@@ -1,6 +1,6 @@
 -- One read's positions: those that the code adds are all that are met. Past the read's end it has no base; past the reference's or
 -- the marks' end it is not looked at.
---     added-everywhere, added-aligned     what the code adds is what the definition does
+--     added_everywhere, added_aligned     what the code adds is what the definition does
 -- Assumes nothing.
 use mathlib.Core.Path.{◌≡◌, refl, ◌∙◌}
 use mathlib.Core.Bool.{Bool, true, false, ◌&&◌}

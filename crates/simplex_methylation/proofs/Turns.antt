@@ -1,15 +1,14 @@
 -- What holds in each turn of the loop over the reads, in plain facts.
 --     Known                    what is known before the loop: the refusal's number, the marks, and how many reads are added
 --     Turn                     what holds after i turns: both counts are those of the first i reads
---     first-turn, next-turn    before the loop, and after one more turn
---     at_most                  no more reads are added than there are
---     turn-asks                what adding a read asks for
+--     first_turn, next_turn    before the loop, and after one more turn
+--     turn_asks                what adding a read asks for
 --     told                     what the call then answers and leaves
 -- Assumes nothing.
 use mathlib.Core.Path.{◌≡◌, refl, sym, ap, ◌∙◌, subst}
-use mathlib.Core.Bool.{Bool, true, false, cond}
+use mathlib.Core.Bool.{Bool, false, cond}
 use mathlib.Core.List.{List}
-use Prim.Native.Nat.{ℕ, zero, suc, ◌+◌, ◌<◌, ◌≤◌, zero-le}
+use Prim.Native.Nat.{ℕ, zero, suc, ◌+◌, ◌<◌, ◌≤◌}
 use native.Mathlib.Nat.{not-suc-le-zero}
 use native.Mathlib.Omega.{arith}
 use borrow.Author.Tests.{ne_eqb}
@@ -41,22 +40,14 @@ module _ (wrong : Bool) (s : Setting) (ys : List SourceRead) (n : ℕ) (before :
     pub many_are : many ≡ cond (eqb number 0) (length ys) 0
 
   pub record Turn (number many i : ℕ) (us cs : List ℕ) : Type 0 where
-    pub within : i ≤ many
-    pub long_u : length us ≡ length before.unconverted
-    pub long_c : length cs ≡ length before.converted
     pub unconverted : Running s unconverted_letter ys n before.unconverted number i us
     pub converted : Running s converted_letter ys n before.converted number i cs
 
   pub first_turn :
       {leaving : Bool} {number many : ℕ} {ms us cs : List ℕ}
       → BegunAs wrong (pattern_bases s.pattern).reference s.reference n (length ys) leaving before (evidence_arrays ms us cs) number
-      → length us ≡ length before.unconverted
-      → length cs ≡ length before.converted
       → Turn number many 0 us cs
-  first_turn b lu lc = record {
-    within = zero-le;
-    long_u = lu;
-    long_c = lc;
+  first_turn b = record {
     unconverted = begun s unconverted_letter ys n before.unconverted b.left.unconverted;
     converted = begun s converted_letter ys n before.converted b.left.converted;
   }
@@ -67,13 +58,6 @@ module _ (wrong : Bool) (s : Setting) (ys : List SourceRead) (n : ℕ) (before :
   taken (suc m) {many} {i} e l =
       let nothing : many ≡ 0 = rw (ne_eqb (suc m) 0 (λ z. omega arith)) at e in
       absurd (not-suc-le-zero (subst (λ (k : ℕ). i < k) nothing l))
-
-  pub at_most : {leaving : Bool} {number many : ℕ} {ms : List ℕ} → Known leaving number many ms → many ≤ length ys
-  at_most {number = number} k = subst (λ (m : ℕ). m ≤ length ys) (sym k.many_are) (go (eqb number 0))
-    where
-      go : (b : Bool) → cond b (length ys) 0 ≤ length ys
-      go true = omega arith
-      go false = omega arith
 
   module _ {leaving : Bool} {number many i : ℕ} {ms us cs : List ℕ} (k : Known leaving number many ms) (t : Turn number many i us cs) where
     module _ (l : i < many) where
@@ -100,13 +84,8 @@ module _ (wrong : Bool) (s : Setting) (ys : List SourceRead) (n : ℕ) (before :
       pub next_turn :
           {us' cs' : List ℕ}
           → AddedAs s (get_or ys i none) n us cs us' cs'
-          → length us' ≡ length us
-          → length cs' ≡ length cs
           → Turn number many (i + 1) us' cs'
-      next_turn {us'} {cs'} a lu lc = record {
-        within = omega arith;
-        long_u = lu ∙ t.long_u;
-        long_c = lc ∙ t.long_c;
+      next_turn {us'} {cs'} a = record {
         unconverted = subst (λ (m : ℕ). Running s unconverted_letter ys n before.unconverted m (i + 1) us') (sym free.0)
             (added_next s unconverted_letter ys n before.unconverted now_unconverted free.1 fits.outs.1 a.unconverted_ones);
         converted = subst (λ (m : ℕ). Running s converted_letter ys n before.converted m (i + 1) cs') (sym free.0)

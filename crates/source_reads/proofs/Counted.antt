@@ -1,14 +1,14 @@
 -- What a count of reads leaves.
---     all-within, few-positions     there is room for the positions that are counted, and they are no more than 1,024
---     one-read             of one read: the errors of its bases
---     either, one-shown    the same by what reads without flag 0x80 should show and those with it
+--     all_within, few_positions     there is room for the positions that are counted, and they are no more than 1,024
+--     one_read             of one read: the errors of its bases
+--     either, one_shown    the same by what reads without flag 0x80 should show and those with it
 --     same                 as many numbers as there were
 --     none_yet, next, all  a loop over the reads: at its start, after one more turn, and at its end
 --     after_one            a count of one read, then of the others
---     expected-room, expected-called, expected-uncalled, expected-length     the array of what reads should show: as it is written, and how long it is
---     none-counted, as-expected     of no position, nothing; by what is expected of reads, what they are to be counted for
---     as-counted           from 0, with no more reads than 16 bits count: how many reads are errors
---     few-errors           no more than there are reads
+--     expected_room, expected_called, expected_uncalled, expected_length     the array of what reads should show: as it is written, and how long it is
+--     none_counted, as_expected     of no position, nothing; by what is expected of reads, what they are to be counted for
+--     as_counted           from 0, with no more reads than 16 bits count: how many reads are errors
+--     few_errors           no more than there are reads
 -- Assumes nothing.
 use mathlib.Core.Path.{◌≡◌, refl, sym, ap, ◌∙◌}
 use mathlib.Core.Bool.{Bool, true, false, cond, ◌&&◌}

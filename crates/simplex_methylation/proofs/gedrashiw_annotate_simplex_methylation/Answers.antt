@@ -8,7 +8,7 @@ use Rattle.simplex_methylation.proofs.gedrashiw_annotate_simplex_methylation.Goa
 
 pub loop-i-init : goal.loop-i-init
 loop-i-init c =
-    first_turn (wrong_pattern c.args.pattern) (setting (pattern_of c.args.pattern) c.args.bytes.now c.args.reference.now c.args.aligned.now (yes c.args.count_all_positions)) c.args.reads.now c.args.consensus_len (evidence_arrays c.args.marks_out.now c.args.unconverted_out.now c.args.converted_out.now) c.begin_annotation-number.ensures c.begin_annotation-number.auto.unconverted_out c.begin_annotation-number.auto.converted_out
+    first_turn (wrong_pattern c.args.pattern) (setting (pattern_of c.args.pattern) c.args.bytes.now c.args.reference.now c.args.aligned.now (yes c.args.count_all_positions)) c.args.reads.now c.args.consensus_len (evidence_arrays c.args.marks_out.now c.args.unconverted_out.now c.args.converted_out.now) c.begin_annotation-number.ensures
 
 pub add_read-requires : goal.add_read-requires
 add_read-requires c =
@@ -30,7 +30,7 @@ loop-i-preserved c =
       marks = c.begin_annotation-number.ensures.left.marks;
       many_are = c.reads_to_add-n.ensures;
     } in
-    next_turn (wrong_pattern c.args.pattern) (setting (pattern_of c.args.pattern) c.args.bytes.now c.args.reference.now c.args.aligned.now (yes c.args.count_all_positions)) c.args.reads.now c.args.consensus_len (evidence_arrays c.args.marks_out.now c.args.unconverted_out.now c.args.converted_out.now) known c.loop-i.invariant c.loop-i-test.true c.add_read.ensures c.add_read.auto.unconverted_out c.add_read.auto.converted_out
+    next_turn (wrong_pattern c.args.pattern) (setting (pattern_of c.args.pattern) c.args.bytes.now c.args.reference.now c.args.aligned.now (yes c.args.count_all_positions)) c.args.reads.now c.args.consensus_len (evidence_arrays c.args.marks_out.now c.args.unconverted_out.now c.args.converted_out.now) known c.loop-i.invariant c.loop-i-test.true c.add_read.ensures
 
 pub returns : goal.returns
 returns c =
