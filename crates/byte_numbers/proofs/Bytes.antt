@@ -1,8 +1,8 @@
 -- Laws of numbers as bytes, for any width.
---     length-bytes, length-numbers          how many there are
---     number-of-bytes                       a number that its bytes can say is read back
---     numbers-of-bytes                      a claim: so are some numbers
---     two_at, four-at                       a number of two and of four bytes, by its bytes
+--     length_bytes, length_numbers          how many there are
+--     number_of_bytes                       a number that its bytes can say is read back
+--     numbers_of_bytes                      a claim: so are some numbers
+--     two_at, four_at                       a number of two and of four bytes, by its bytes
 -- Assumes nothing.
 use mathlib.Core.Path.{◌≡◌, refl, ap}
 use mathlib.Core.List.{List, [], ◌∷◌}

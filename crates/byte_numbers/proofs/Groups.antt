@@ -1,14 +1,14 @@
 -- Laws of groups of one width, for any width and any element type.
 --     taken                            a part of a list, element by element
---     group-room, part-of-group        a group lies within its list, and a part of it is a part of the list
---     length-by-group                  how many groups there are
---     length-joined, group-joined      how long joined groups are, and that each is found again
---     by-group-joined                  so that what they stand for is, too
---     read-front, all_fit              what is read and written where there is room for all
---     begin-read, read-within, read-room, next-read     a loop that writes what groups stand for, as far as there is room (`Copying`)
+--     group_room, part_of_group        a group lies within its list, and a part of it is a part of the list
+--     length_by_group                  how many groups there are
+--     length_joined, group_joined      how long joined groups are, and that each is found again
+--     by_group_joined                  so that what they stand for is, too
+--     read_front, all_fit              what is read and written where there is room for all
+--     begin_read, read_within, read_room, next_read_lem  a loop that writes what groups stand for, as far as there is room (`Copying`)
 --     stored                           a run of stores, one after another
 --     Joining                          the invariant of a loop that writes groups one after another
---     begin-join, same-join, join-room, next-join, done-join      the five facts that such a loop asks for
+--     begin_join, same_join, join_room, next_join, done_join      the five facts that such a loop asks for
 --     Writing                          the same for a group for each element of a list, as many as there is room for: begin-, next-, done-
 -- Assumes nothing.
 use mathlib.Core.Path.{◌≡◌, refl, sym, ap, ◌∙◌}

@@ -1,10 +1,10 @@
 -- Laws of the call.
 --     joined              the code's chain of tests, the library's number among them
---     decoded-lengths     how many numbers are decoded
+--     decoded_lengths     how many numbers are decoded
 --     clear               where the call is not refused, nor is the library's call, and there is room
 --     narrow              then what is decoded fits its arrays
 --     never               the library's call then answers a record
---     none-taken          of an absent second strand
+--     none_taken          of an absent second strand
 -- Assumes nothing.
 use mathlib.Core.Path.{◌≡◌, refl, sym, ap, ◌∙◌}
 use mathlib.Core.Bool.{Bool, true, false, not, cond}

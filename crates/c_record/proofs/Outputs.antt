@@ -1,6 +1,6 @@
 -- Laws of a record as bytes.
---     same-evidence                 a strand's evidence, by the fronts that the code has
---     bytes-refused                 what a refused call leaves
+--     same_evidence                 a strand's evidence, by the fronts that the code has
+--     bytes_refused_lem             what a refused call leaves
 --     turned_down, passed_on        what is promised of a call, by its test and what was written
 -- Assumes nothing.
 use mathlib.Core.Path.{◌≡◌, refl, sym, ap, subst, ◌∙◌}

@@ -1,8 +1,8 @@
 -- Evidence and counts between bytes and arrays of 1,024 places.
---     read, read-few, read_fits     evidence of at most so many positions is at the front of its array, all of it
---     of-bytes                      the texts of what was read are those of the bytes
+--     read, read_few, read_fits     evidence of at most so many positions is at the front of its array, all of it
+--     of_bytes                      the texts of what was read are those of the bytes
 --     counted, summed               counts that `methylation_evidence` leaves in an array, written as bytes where there is room
---     few-of, fits-of               what is known of some bytes, of equal ones
+--     few_of, fits_of               what is known of some bytes, of equal ones
 -- Assumes nothing.
 use mathlib.Core.Path.{◌≡◌, sym, ap, subst, ◌∙◌}
 use mathlib.Core.List.{List}

@@ -1,11 +1,11 @@
 -- What is promised of the entry, by its first test, the texts and the counts.
---     own-counts           of the evidence that is looked at, all counts are the strand's
---     second-test          the tests after row 13
+--     own_counts           of the evidence that is looked at, all counts are the strand's
+--     second_test          the tests after row 13
 --     same_first, early    its first test, and what it promises where that refuses
 --     Ready, ready         what that test leaves
---     same-texts           the texts of what the code has are those of what was given
---     left-counts          the counts that are written are the strands'
---     late, all-written    what it promises where the texts are refused, and where all is written
+--     same_texts           the texts of what the code has are those of what was given
+--     left_counts          the counts that are written are the strands'
+--     late, all_written    what it promises where the texts are refused, and where all is written
 -- Assumes nothing.
 use mathlib.Core.Path.{◌≡◌, refl, sym, ap, subst, ◌∙◌}
 use mathlib.Core.Bool.{Bool, true, false, cond, ◌||◌}

@@ -1,7 +1,7 @@
 -- Laws of a read name.
---     name-length      the name has the three lengths added
---     below-prefix, fits-by-rest     what the code tests: the output's rest after the prefix is too short
---     with-colon, joined             the name as it is written
+--     name_length      the name has the three lengths added
+--     below_prefix, fits_by_rest     what the code tests: the output's rest after the prefix is too short
+--     with_colon, joined             the name as it is written
 -- Assumes nothing.
 use mathlib.Core.Path.{◌≡◌, refl, sym}
 use mathlib.Core.Bool.{Bool, true, false}

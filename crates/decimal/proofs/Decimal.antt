@@ -1,11 +1,11 @@
 -- Laws of decimal text.
---     decimal-one, decimal-more     the text of a number below 10, and of one from 10 on by that of its tenth
---     by-tenths                     what holds below 10, and from 10 on where it holds of the tenth, holds of every number
---     digits-within                 a number has at most one digit more than the number itself
---     few-digits                    a number below 10 to the power k has at most k digits
---     only-digits                   each character of the text is a digit's
---     value-decimal                 the text read back is the number
---     listed-append                 numbers with a comma before each, in two parts
+--     decimal_one, decimal_more     the text of a number below 10, and of one from 10 on by that of its tenth
+--     by_tenths                     what holds below 10, and from 10 on where it holds of the tenth, holds of every number
+--     digits_within                 a number has at most one digit more than the number itself
+--     few_digits                    a number below 10 to the power k has at most k digits
+--     only_digits                   each character of the text is a digit's
+--     value_decimal                 the text read back is the number
+--     listed_append                 numbers with a comma before each, in two parts
 --     put_first                     what an output holds when the first digit is stored
 -- Assumes nothing.
 use mathlib.Core.Path.{◌≡◌, refl, ap, ◌∙◌, sym}

@@ -1,8 +1,8 @@
 -- The depths of a record of n positions: what stands at a position, by which strand reaches it, and loops that write them one after the other.
---     combined-length                        so many
---     first_alone, second-alone, neither     the depth where one strand, or both, have ended
+--     combined_length                        so many
+--     first_alone, second_alone, neither     the depth where one strand, or both, have ended
 --     anew                                   the next loop writes on where one has ended
---     over-all                               what is written at last is written over the first output
+--     over_all                               what is written at last is written over the first output
 -- Assumes nothing.
 use mathlib.Core.Path.{◌≡◌, sym, ap, ◌∙◌}
 use mathlib.Core.List.{List}

@@ -1,6 +1,6 @@
 -- How large sums and differences of 16-bit numbers are.
---     sum_fits, difference-fits     as 32-bit signed numbers they fit
---     difference-size               how large a difference is
+--     sum_fits, difference_fits     as 32-bit signed numbers they fit
+--     difference_size               how large a difference is
 -- Assumes nothing.
 use mathlib.Core.Bool.{Bool, true, false, cond}
 use Prim.Native.Nat.{ℕ, zero, suc, ◌+◌, ◌-◌, ◌^◌, ◌≤◌, ◌<◌}

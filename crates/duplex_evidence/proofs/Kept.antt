@@ -1,8 +1,8 @@
 -- What the loop over positions writes, and how much of it.
---     evidence-by     a strand's evidence, from what was asked of it
---     by-marks        where the marks are written and then the counts by them, the evidence is
+--     evidence_by     a strand's evidence, from what was asked of it
+--     by_marks        where the marks are written and then the counts by them, the evidence is
 --     at_most         there are no more places of evidence than positions
---     put-kept        for a caller: where evidence is written no array is too short
+--     put_kept        for a caller: where evidence is written no array is too short
 -- Assumes nothing.
 use mathlib.Core.Path.{◌≡◌, refl, ap, ◌∙◌}
 use mathlib.Core.Bool.{Bool, true, false, not, cond}

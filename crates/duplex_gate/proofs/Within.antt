@@ -1,6 +1,6 @@
 -- The largest depth of a strand within the record's length, looked for one position at a time.
 --     Found                     it is the largest of the first i
---     found-next, found-stay    at one position more, within the strand or past its end
+--     found_next, found_stay    at one position more, within the strand or past its end
 --     found_all                 at the end
 -- Assumes nothing.
 use mathlib.Core.Path.{◌≡◌, sym, ◌∙◌}

@@ -1,7 +1,7 @@
 -- What a record's kind says of what was given.
 --     taken                     the answer of `record_kind` where no row refuses
---     is-refused, is_none       what such an answer says: the number, or that there is none and the kind
---     is-ab, is-ba, is-both     the same with the record's length, and that the strands that count pass rows 7 and 8
+--     is_refused, is_none       what such an answer says: the number, or that there is none and the kind
+--     is_ab, is_ba, is_both     the same with the record's length, and that the strands that count pass rows 7 and 8
 -- Assumes nothing.
 use mathlib.Core.Path.{◌≡◌, refl, sym, subst}
 use mathlib.Core.Bool.{Bool, true, false, cond, ◌&&◌, true≢false}

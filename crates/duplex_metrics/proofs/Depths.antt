@@ -1,9 +1,9 @@
 -- Laws of a record's depths.
---     depths-length, depths-at   how many there are, and each
---     capped-length, capped_at   the same of a strand's capped depths or errors
---     depth-bound, short-bound   each is at most 65,534, and a strand's 32,767
---     one-strand                 beside an empty strand they are the other's capped depths
---     depths-sum, capped-sum     their sum, and a strand's, by the number of positions
+--     depths_length, depths_at   how many there are, and each
+--     capped_length, capped_at   the same of a strand's capped depths or errors
+--     depth_bound, short_bound   each is at most 65,534, and a strand's 32,767
+--     one_strand                 beside an empty strand they are the other's capped depths
+--     depths_sum, capped_sum     their sum, and a strand's, by the number of positions
 -- Assumes nothing.
 use mathlib.Core.Path.{◌≡◌, refl, ap, ap₂}
 use mathlib.Core.List.{List, [], ◌∷◌, foldl}

@@ -1,7 +1,7 @@
 -- Where the metrics are not refused, no array that is looked at has over 1,024 elements, and those of one strand or record have as many each.
 --     few                     what passing means
---     only-few                of an array of the second strand, where there is one
---     part-few, looked-at, part_same     of the part of it that is looked at
+--     only_few                of an array of the second strand, where there is one
+--     part_few, looked_at, part_same     of the part of it that is looked at
 -- Assumes nothing.
 use mathlib.Core.Path.{◌≡◌, refl}
 use mathlib.Core.Bool.{Bool, true, false, cond, ◌||◌}

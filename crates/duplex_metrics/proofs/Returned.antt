@@ -1,6 +1,6 @@
 -- A metrics record that was returned.
 --     record_is                        it is the one that was promised
---     a-number, b-number, c-number     its rates are no NaN, so that their bits may be asked for
+--     a_number, b_number, c_number     its rates are no NaN, so that their bits may be asked for
 -- Assumes nothing.
 use mathlib.Core.Path.{◌≡◌, refl}
 use mathlib.Core.Bool.{not}

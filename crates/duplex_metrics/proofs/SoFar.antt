@@ -1,11 +1,11 @@
 -- Laws of running figures.
 --     continues               with one position more they are those of the positions so far
 --     Reached                 what a loop has after i turns, a position a turn: begin, next, done
---     depths-first, only-within     where the smallest is looked for from
+--     depths_first, only_within     where the smallest is looked for from
 --     mark                    whether a position is a no-call
---     no-calls-within         the no-calls, with bases and without
---     depths-alike, alike     depths that agree within the record give the same depths, figures and no-calls
---     cut_at, empty-at, padded-cut     arrays that agree so
+--     no_calls_within         the no-calls, with bases and without
+--     depths_alike, alike     depths that agree within the record give the same depths, figures and no-calls
+--     cut_at, empty_at, padded_cut     arrays that agree so
 -- Assumes nothing.
 use mathlib.Core.Path.{◌≡◌, refl, sym, ap, ap₂, ◌∙◌}
 use mathlib.Core.Bool.{Bool, true, false, cond}

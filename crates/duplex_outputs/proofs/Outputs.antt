@@ -1,6 +1,6 @@
 -- What a call that writes a record leaves in its outputs, by the number that its code has.
---     record-refused     refused: every output is as it was
---     record-passed      not refused: every output has its array written to its front
+--     record_refused     refused: every output is as it was
+--     record_passed      not refused: every output has its array written to its front
 --     roomy              row 12 does not refuse: there is room for n positions, and for evidence where it goes
 -- Assumes nothing.
 use mathlib.Core.Path.{◌≡◌, refl, ◌∙◌}

@@ -1,8 +1,8 @@
 -- A record is what the call that wrote it leaves, where rows 7 to 10 are passed.
---     kind-given, kind-by  the kind, from what is given of the strands, and from their lengths
+--     kind_given_lem, kind_by_lem  the kind, from what is given of the strands, and from their lengths
 --     turned_down          refused by one of those rows
 --     none                 nothing is written
---     alone-ab, alone-ba   by `gated_single_strand`, to the first strand's outputs
+--     alone_ab, alone_ba   by `gated_single_strand`, to the first strand's outputs
 --     both                 by a call that combines two strands
 -- Assumes nothing.
 use mathlib.Core.Path.{◌≡◌, refl, sym, ap, ◌∙◌}

@@ -1,7 +1,7 @@
 -- A strand's counts.
 --     counted          so many places of its array, all or none
 --     few-counts, counts-room     at most 1,024, and there is room for them
---     tag-length       how many its tag has
+--     tag_length       how many its tag has
 -- Assumes nothing.
 use mathlib.Core.Path.{◌≡◌, refl, ◌∙◌}
 use mathlib.Core.Bool.{true}

@@ -1,9 +1,9 @@
 -- The refusal of a call that tests the sequence, the evidence and the outputs of counts itself, and leaves those of the texts to
 -- `duplex_texts`.
---     needed-lengths               how many counts go to each output
---     refused-first                the number of its own test
+--     needed_lengths               how many counts go to each output
+--     refused_first                the number of its own test
 --     Passed, passed_first         what that test leaves, and that the number then is that of the texts
---     enough-room                  the room that it leaves
+--     enough_room                  the room that it leaves
 --     number_is                    the number that the texts' answer has
 -- Assumes nothing.
 use mathlib.Core.Path.{◌≡◌, refl, sym, ap, ap₂, ◌∙◌}

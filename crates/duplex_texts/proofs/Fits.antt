@@ -1,5 +1,5 @@
 -- Calls of other crates that no row refuses here, so that what they write is known.
---     bases-fit, restore-fits, tags-fit     of restoring a sequence, and of a strand's tags
+--     bases_fit, restore_fits, tags_fit     of restoring a sequence, and of a strand's tags
 -- Assumes nothing.
 use mathlib.Core.Path.{◌≡◌, refl}
 use mathlib.Core.Bool.{true}

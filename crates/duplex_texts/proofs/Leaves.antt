@@ -1,6 +1,6 @@
 -- What a call that writes texts leaves in its outputs, by the number that its code has.
---     leaves-refused     refused: every output is as it was
---     leaves-passed      not refused: every output has its text written to its front
+--     leaves_refused     refused: every output is as it was
+--     leaves_passed      not refused: every output has its text written to its front
 -- Assumes nothing.
 use mathlib.Core.Path.{◌≡◌}
 use Prim.Native.Nat.{ℕ}

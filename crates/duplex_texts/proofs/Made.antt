@@ -1,7 +1,7 @@
 -- What follows once the strands' texts and the sequence are made in a buffer.
 --     few_bytes       how long two texts are together
 --     needed          how many places go to each output
---     all-put         what is written from the buffer is the definition's
+--     all_put         what is written from the buffer is the definition's
 -- Assumes nothing.
 use mathlib.Core.Path.{◌≡◌, refl, sym, ap, ◌∙◌}
 use mathlib.Core.Bool.{Bool}

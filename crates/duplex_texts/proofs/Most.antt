@@ -1,6 +1,6 @@
 -- For callers: how long the outputs of the texts can need to be.
---     seq-most, first-most, second-most, combined-most, bytes_most     each, by how many bases there are
---     texts-fit          outputs of those lengths are never too short
+--     seq_most, first_most, second_most, combined_most, bytes_most     each, by how many bases there are
+--     texts_fit          outputs of those lengths are never too short
 -- Assumes nothing.
 use mathlib.Core.Path.{◌≡◌}
 use mathlib.Core.Bool.{false}

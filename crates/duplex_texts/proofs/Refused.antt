@@ -1,7 +1,7 @@
 -- The refusal of a call that tests the sequence and the evidence first, and the room of its outputs after.
 --     as_long                      what the first test leaves
---     refused-given, refused-room  the number, by the test that gave it
---     enough-room                  what the second test leaves
+--     refused_given, refused_room  the number, by the test that gave it
+--     enough_room                  what the second test leaves
 -- Assumes nothing.
 use mathlib.Core.Path.{◌≡◌, refl, sym}
 use mathlib.Core.Bool.{Bool, true, false, cond, ◌&&◌, true≢false}

@@ -1,9 +1,9 @@
 -- The sequence and the strands' texts.
---     seq-length             restoring leaves as many bases
---     part-restored          restoring the front of a buffer
---     no-texts, evident, tagged, some-texts     a strand without an annotation, and with one
---     mm-most, ml-most       how long a strand's texts can be
---     grouped-length         how long two are together
+--     seq_length             restoring leaves as many bases
+--     part_restored          restoring the front of a buffer
+--     no_texts, evident, tagged, some_texts     a strand without an annotation, and with one
+--     mm_most, ml_most       how long a strand's texts can be
+--     grouped_length         how long two are together
 --     joined                 one written behind the other
 -- Assumes nothing.
 use mathlib.Core.Path.{◌≡◌, refl, ap, ◌∙◌}

@@ -1,6 +1,6 @@
 -- Laws of the fields of some bytes.
---     fields-none, fields-cut, fields-whole     by what the bytes begin with
---     read-back, written     the fields of encoded fields are those; whole fields are what their encoding says
+--     fields_none, fields_cut, fields_whole     by what the bytes begin with
+--     read_back, written     the fields of encoded fields are those; whole fields are what their encoding says
 --     exactly                both as one statement
 -- Assumes nothing.
 use mathlib.Core.Logic.{◌↔◌}

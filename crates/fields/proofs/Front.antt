@@ -1,6 +1,6 @@
 -- What some bytes begin with, from the bytes at a place on.
---     front-short, front_at     by how many bytes are left, and by the length that two of them say
---     no_field, no-whole-field, a-field     what `next_field` then is
+--     front_short, front_at     by how many bytes are left, and by the length that two of them say
+--     no_field, no-whole-field, a_field     what `next_field` then is
 -- Assumes nothing.
 use mathlib.Core.Path.{◌≡◌, refl, ◌∙◌}
 use mathlib.Core.Bool.{cond}

@@ -1,6 +1,6 @@
 -- A walk over the fields of a buffer, from one `next_field` to the next: what its answer at a place says of the fields from there on.
---     at-end, at_cut     there are none (none-at-end, none-at-cut), and nothing or a cut field is left
---     at-whole           a field, and the fields from its end on
+--     at_end, at_cut     there are none (none_at_end, none_at_cut), and nothing or a cut field is left
+--     at_whole           a field, and the fields from its end on
 --     along              induction along a walk
 -- Assumes nothing.
 use mathlib.Core.Path.{◌≡◌, refl, sym, ap, ◌∙◌}

@@ -1,7 +1,7 @@
 -- Laws of hexadecimal text.
---     length-hexadecimal, digit-is     how many digits there are, and each of them
---     each-digit                       a test that each digit's character meets is met by the text
---     read-back                        of specs/Hexadecimal.antt's `ReadBack`
+--     length_hexadecimal, digit_is     how many digits there are, and each of them
+--     each_digit                       a test that each digit's character meets is met by the text
+--     read_back                        of specs/Hexadecimal.antt's `ReadBack`
 -- Assumes nothing.
 use mathlib.Core.Path.{◌≡◌, refl, sym, ◌∙◌}
 use mathlib.Core.Bool.{Bool, true, false, cond}

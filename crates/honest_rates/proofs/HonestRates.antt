@@ -1,4 +1,4 @@
--- The claims of specs/HonestRates.antt. A returned rate, however it was returned, is the rate of the sums behind it (`behind-bits`), and the
+-- The claims of specs/HonestRates.antt. A returned rate, however it was returned, is the rate of the sums behind it (`behind_bits`), and the
 -- claims hold of that. Assumes nothing.
 use mathlib.Core.Path.{◌≡◌, refl, sym, ap, ap₂, subst, ◌∙◌}
 use mathlib.Core.Bool.{Bool, true, false, cond}

@@ -1,4 +1,4 @@
--- What duplexline prints for some bytes, with what a record's metrics were asked of: `record-printed`. Assumes nothing.
+-- What duplexline prints for some bytes, with what a record's metrics were asked of: `record_printed`. Assumes nothing.
 use mathlib.Core.Path.{◌≡◌, refl, sym, ap, subst, ◌∙◌}
 use mathlib.Core.Bool.{Bool, true, false, cond, ◌||◌}
 use mathlib.Core.List.{List, [], ◌∷◌}

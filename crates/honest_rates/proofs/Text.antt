@@ -1,8 +1,8 @@
 -- What stands in the columns of a printed text.
---     column-kind, column-bases, column-errors     of a record's text
---     column-aE, column-bE, column-cE
---     numbers-back                                 numbers with commas between them are read back
---     none-word, refused-word                      what stands for a kind in the other two texts
+--     column_kind, column_bases, column_errors     of a record's text
+--     column_a_e, column_b_e, column_c_e
+--     numbers_back                                 numbers with commas between them are read back
+--     none_word, refused_word                      what stands for a kind in the other two texts
 -- Assumes nothing.
 use mathlib.Core.Path.{◌≡◌, refl, ap, ◌∙◌}
 use mathlib.Core.Bool.{Bool, true, false, cond, not, ◌&&◌}

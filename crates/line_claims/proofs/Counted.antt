@@ -1,4 +1,4 @@
--- The errors of a run's reads by its fields: `each-counted`, of specs/Counted.antt. Assumes nothing.
+-- The errors of a run's reads by its fields: `each_counted`, of specs/Counted.antt. Assumes nothing.
 use mathlib.Core.Path.{◌≡◌, refl, sym, ap, ◌∙◌}
 use mathlib.Core.Bool.{Bool, true, false, ◌&&◌, ◌||◌, true≢false}
 use mathlib.Core.List.{List, [], ◌∷◌, map, foldl}

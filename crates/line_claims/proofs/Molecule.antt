@@ -1,6 +1,6 @@
 -- The text for a molecule from its fields.
---     by-thresholds, by_rows, by-record     what is printed, by the thresholds' rows and by the others
---     the-reads     of specs/Claims.antt's `TheReads`
+--     by_thresholds, by_rows, by_record     what is printed, by the thresholds' rows and by the others
+--     the_reads     of specs/Claims.antt's `TheReads`
 -- Assumes nothing.
 use mathlib.Core.Path.{◌≡◌, refl, sym, ap, subst, ◌∙◌}
 use mathlib.Core.Bool.{Bool, true, false, cond, not, ◌&&◌, ◌||◌}

@@ -1,5 +1,5 @@
 -- The rows of a strand that a molecule holds, by how many positions its arrays have.
---     strand-in     the strand of some fields, as the calls take it
+--     strand_in_lem  the strand of some fields, as the calls take it
 --     Sized         its byte counts fit the widths, and rows 7 and 8 are met where its positions say so
 --     sized_a, sized_b     that this is so of both strands of a molecule
 -- Assumes nothing.

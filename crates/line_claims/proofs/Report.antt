@@ -1,5 +1,5 @@
 -- Neither the gate nor the metrics refuse a record of at most 1,024 positions whose strands have as many errors as depths, once the
--- thresholds are valid: `own-report`. Assumes nothing.
+-- thresholds are valid: `own_report`. Assumes nothing.
 use mathlib.Core.Path.{◌≡◌, refl, ap, ◌∙◌}
 use mathlib.Core.Bool.{Bool, true, false, cond, ◌&&◌, ◌||◌}
 use mathlib.Core.List.{List, [], ◌∷◌, ◌++◌}

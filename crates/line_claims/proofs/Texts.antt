@@ -1,6 +1,6 @@
 -- The three texts differ, and a refusal's says its number.
 --     same_number     two refusals that print alike have one number
---     not-printed     a refusal's text is neither `none` nor a record's
+--     not_printed     a refusal's text is neither `none` nor a record's
 -- Assumes nothing.
 use mathlib.Core.Path.{◌≡◌, sym, ap, ◌∙◌}
 use mathlib.Core.Bool.{Bool}

@@ -1,6 +1,6 @@
 -- How long the texts are of numbers that fit their types.
---     line-most              of a record with at most 1,024 positions
---     none-most, refused-most
+--     line_most              of a record with at most 1,024 positions
+--     none_most, refused_most
 -- Assumes nothing.
 use mathlib.Core.Bool.{Bool, true, false}
 use Prim.Native.Nat.{ℕ, ◌≤◌}

@@ -1,7 +1,7 @@
 -- The thresholds, of which 4 are read: more are refused as 4 are.
---     refused-four         the refusal of the first 4 is that of all
---     slice-read           what was read to an array of zeros
---     text-refused, text-passed       a molecule's line, by what its thresholds are
+--     refused_four         the refusal of the first 4 is that of all
+--     slice_read           what was read to an array of zeros
+--     text_refused, text_passed       a molecule's line, by what its thresholds are
 -- Assumes nothing.
 use mathlib.Core.Path.{◌≡◌, refl, sym, ap, subst, ◌∙◌}
 use mathlib.Core.List.{List, [], ◌∷◌}

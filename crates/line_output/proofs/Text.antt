@@ -4,7 +4,7 @@
 --     sized                      a writer that answers its text's length, whatever the room
 --     placed                     a text written to the part of the output from a place on
 --     then                       one text written right behind another
---     comma-next, item-most      what one more number adds to a list, and how many bytes that is
+--     comma_next, item_most      what one more number adds to a list, and how many bytes that is
 --     Listing                    the invariant of a loop that writes a list: begin, turn, done
 -- Assumes nothing.
 use mathlib.Core.Path.{◌≡◌, refl, sym, ap, ◌∙◌}

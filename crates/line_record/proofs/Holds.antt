@@ -1,7 +1,7 @@
 -- What a line holds.
---     of-any                   a text that there is room for whatever the arrays are
---     by-report, by_answer     the text of a report and of an answer
---     from-fronts              the text of a record from the fronts of its arrays
+--     of_any                   a text that there is room for whatever the arrays are
+--     by_report, by_answer     the text of a report and of an answer
+--     from_fronts              the text of a record from the fronts of its arrays
 -- Assumes nothing.
 use mathlib.Core.Path.{◌≡◌, subst}
 use mathlib.Core.Bool.{Bool}

@@ -1,8 +1,8 @@
 -- A record's report from the first 1,024 numbers of each array of a strand is that from all. A record of more positions is refused by
 -- its gate, whatever its strands are.
---     from-read     a report from what was read of each array
---     judged-is     a report from what the gate and the metrics answer
---     alone, by-made     a report of one strand, and by what was made
+--     from_read     a report from what was read of each array
+--     judged_is     a report from what the gate and the metrics answer
+--     alone, by_made     a report of one strand, and by what was made
 -- Assumes nothing.
 use mathlib.Core.Path.{◌≡◌, refl, sym, ap, ◌∙◌}
 use mathlib.Core.Bool.{Bool, true, false, cond}

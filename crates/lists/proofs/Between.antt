@@ -1,8 +1,8 @@
 -- Texts that are written to a buffer one behind the other, for any element type.
---     put-behind       ys written behind xs, which stands at the front
+--     put_behind       ys written behind xs, which stands at the front
 --     copied_behind    by a call that copies so many places of a list to what lies behind a place
---     part-between     what stands between two others
---     part-most        a part has no more than it was asked for
+--     part_between     what stands between two others
+--     part_most        a part has no more than it was asked for
 -- Assumes nothing.
 use mathlib.Core.Path.{◌≡◌, sym, ◌∙◌}
 use mathlib.Core.Bool.{Bool, true, false, cond}

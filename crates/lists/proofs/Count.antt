@@ -1,7 +1,7 @@
 -- Laws of counting, for any element type.
 --     counted, passed_over     the number after an element that meets the test, and after one that does not
---     count-cons, count-snoc   one element more, at the front and at the end
---     counts-few               no more are counted than there are
+--     count_cons, count_snoc   one element more, at the front and at the end
+--     counts_few               no more are counted than there are
 --     Counting                 the invariant of a loop that counts: begin, next, done
 -- Assumes nothing.
 use mathlib.Core.Path.{◌≡◌, refl, ◌∙◌}

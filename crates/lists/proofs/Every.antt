@@ -1,6 +1,6 @@
 -- A loop that tests every element of a list, one a turn, and ends at the first that fails: what is left of the test after i turns.
---     every-passed, every-failed     by the element at i
---     every-none                     at the end
+--     every_passed, every_failed     by the element at i
+--     every_none                     at the end
 -- For any element type. Assumes nothing.
 use mathlib.Core.Path.{◌≡◌}
 use mathlib.Core.Bool.{Bool, true, false}

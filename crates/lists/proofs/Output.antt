@@ -1,14 +1,14 @@
 -- Laws of `answer`, `after` and `put`, and the invariant of a loop that fills a lent output, for any element type.
---     answer-refused, answer-passed      what a call answers, by the number that its code has
---     answer-then, answer-map            of a call that is refused in two steps; that hands on another's answer
---     after-refused, after-passed        what an output then holds
+--     answer_refused, answer_passed      what a call answers, by the number that its code has
+--     answer_then, answer_map            of a call that is refused in two steps; that hands on another's answer
+--     after_refused, after_passed        what an output then holds
 --     written, after_none                of a call that was not refused; to which nothing goes
---     put-none, put-take, put-over       nothing written, what stands there written again, and something else over it
---     length-put, put_holds, front_of    the length of a written output, and what stands at its front
---     put-snoc, put_next                 what is written right after
---     put-fitting, fitting-snoc          of what goes there, as much as there is room for
---     copied-part, copied-map            a copy of so many places
---     copy-next, fill-next               by a call that copies to a part of it, or fills that
+--     put_none, put_take, put_over       nothing written, what stands there written again, and something else over it
+--     length_put, put_holds, front_of    the length of a written output, and what stands at its front
+--     put_snoc, put_next                 what is written right after
+--     put_fitting, fitting_snoc          of what goes there, as much as there is room for
+--     copied_part, copied_map            a copy of so many places
+--     copy_next, fill_next               by a call that copies to a part of it, or fills that
 --     Filling                            the invariant: the first i of the n places are written, the rest are as they were
 --     begin, fits, next, done, same      the five facts that such a loop asks for
 --     Copying, Repeating                 the same for a loop that copies, or repeats one value: begin-, next-, done-

@@ -1,11 +1,11 @@
 -- Laws of a part of a buffer.
---     leaves-by-rest     what the code tests: the buffer's rest from the offset on is too short
+--     leaves_by_rest     what the code tests: the buffer's rest from the offset on is too short
 --     stays              a part that does not leave its buffer ends within it
---     part-outside, part-within     its elements
---     part-after         the end of a part
---     all-or-none        so many places of a list, all or none of them
---     take_min, front-within     the first n elements, as far as there are so many
---     drop-take, slice-next      the end of a list's front; a slice that ends one later
+--     part_outside, part_within     its elements
+--     part_after         the end of a part
+--     all_or_none_lem    so many places of a list, all or none of them
+--     take_min, front_within     the first n elements, as far as there are so many
+--     drop_take, slice_next      the end of a list's front; a slice that ends one later
 -- Assumes nothing.
 use mathlib.Core.Path.{◌≡◌, refl, sym, ◌∙◌}
 use mathlib.Core.Bool.{Bool, true, false, cond}

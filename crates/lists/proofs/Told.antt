@@ -1,8 +1,8 @@
 -- A call that is refused with a number, or else writes to the front of an output; and a loop that writes a table there: f 0, f 1,
 -- .. , f (n - 1), one a turn.
---     told-refused, told-written     what such a call answers and leaves, by the number that its code has
+--     told_refused, told_written     what such a call answers and leaves, by the number that its code has
 --     as_passed                      the same of several outputs
---     begin-table, next-table        the loop's invariant, `Filling` of a table, at its start and after a turn
+--     begin_table, next_table        the loop's invariant, `Filling` of a table, at its start and after a turn
 -- For any element type and any type of answer. Assumes nothing.
 use mathlib.Core.Path.{◌≡◌, sym, subst, ◌∙◌}
 use mathlib.Core.List.{List}

@@ -1,9 +1,9 @@
 -- What stands in a written output, element by element, for any element type.
---     getD-put, getD-behind           a place that is written, and one behind
---     table-front, table-behind       the same where a table was written
+--     get_d_put, get_d_behind         a place that is written, and one behind
+--     table_front, table_behind       the same where a table was written
 --     unwritten                       the place of the next store of a loop that fills an output
---     put-more                        a rule that says of some places what is there already
---     put-places                      so many places of a table are written, or none
+--     put_more                        a rule that says of some places what is there already
+--     put_places                      so many places of a table are written, or none
 -- Assumes nothing.
 use mathlib.Core.Path.{◌≡◌, refl, sym, ap, ◌∙◌}
 use mathlib.Core.Bool.{Bool, true, false, cond}

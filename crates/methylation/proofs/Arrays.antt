@@ -1,7 +1,7 @@
 -- What a call leaves in the arrays lent for evidence, by the number that its code has, and what the rows on lengths leave.
---     evidence-refused                          refused: every array is as it was
---     evidence-passed, evidence-put             not refused: every array has its own written to its front
---     equal-lengths, as-many-as, enough-room    what rows 8 and 12 leave
+--     evidence_refused                          refused: every array is as it was
+--     evidence_passed, evidence_put             not refused: every array has its own written to its front
+--     equal_lengths, as_many_as, enough_room    what rows 8 and 12 leave
 -- Assumes nothing.
 use mathlib.Core.Path.{◌≡◌, sym, ◌∙◌}
 use mathlib.Core.Bool.{false}

@@ -1,6 +1,6 @@
 -- A loop that writes evidence, position by position, to three outputs.
 --     FillingEvidence                                  the invariant: the first i of the n places of each are written
---     begin-evidence, next-evidence, done-evidence     its beginning, a turn, and the end
+--     begin_evidence, next_evidence, done_evidence     its beginning, a turn, and the end
 -- Assumes nothing.
 use mathlib.Core.Path.{◌≡◌, ap}
 use Prim.Native.Nat.{ℕ, ◌+◌, ◌≤◌, ◌<◌}

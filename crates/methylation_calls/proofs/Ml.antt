@@ -1,6 +1,6 @@
 -- Laws of the ML byte.
---     ml-none      without counts it is 0
---     ml-held, ml-part     it is held to 255, or the part itself
+--     ml_none      without counts it is 0
+--     ml_held, ml_part     it is held to 255, or the part itself
 -- Assumes nothing.
 use mathlib.Core.Path.{◌≡◌}
 use Prim.Native.Nat.{ℕ, ◌+◌, ◌*◌, ◌/◌, ◌≤◌, ◌<◌}

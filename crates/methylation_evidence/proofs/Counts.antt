@@ -1,6 +1,6 @@
 -- How many counts a tag has, and which stands at a position.
---     counts-length, count_at       of one annotation
---     summed-length                 of two
+--     counts_length, count_at       of one annotation
+--     summed_length                 of two
 -- Assumes nothing.
 use mathlib.Core.Path.{◌≡◌, sym}
 use mathlib.Core.List.{List}

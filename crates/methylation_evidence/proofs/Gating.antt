@@ -1,5 +1,5 @@
 -- The loop that clears evidence in place: after i turns the first i positions of each array are gated, the others as they were.
---     begin-gate, next-gate, done-gate     the invariant's beginning, a turn that reads what stands there, and the end
+--     begin_gate, next_gate, done_gate     the invariant's beginning, a turn that reads what stands there, and the end
 -- Assumes nothing.
 use mathlib.Core.Path.{◌≡◌}
 use Prim.Native.Nat.{ℕ, ◌+◌, ◌≤◌, ◌<◌}

@@ -1,5 +1,5 @@
 -- Laws of cutting an annotation.
---     same-positions     at most len positions of an annotation are the first min len of it
+--     same_positions     at most len positions of an annotation are the first min len of it
 -- Assumes nothing.
 use mathlib.Core.Path.{◌≡◌, refl}
 use Prim.Native.Nat.{ℕ, min}

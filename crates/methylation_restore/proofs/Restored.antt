@@ -1,9 +1,9 @@
 -- Laws of restoring, by position.
---     restored-here, kept_here         one base, by the outcome of its test
---     restored-length                  how many bases
---     restored-copy                    what restoring a copy leaves in the output
---     strand-absent, strand-of         a strand without an annotation, and with one
---     strand-room                      what holds where a strand is not refused
+--     restored_here, kept_here         one base, by the outcome of its test
+--     restored_length                  how many bases
+--     restored_copy                    what restoring a copy leaves in the output
+--     strand_absent, strand_of_lem     a strand without an annotation, and with one
+--     strand_room                      what holds where a strand is not refused
 -- Assumes nothing.
 use mathlib.Core.Path.{◌≡◌, ap}
 use mathlib.Core.Bool.{Bool, true, false, not, ◌&&◌}

@@ -1,6 +1,6 @@
 -- Laws of the metrics in bits.
 --     numbers                          the rates of a record that is answered are no NaN
---     refused-words, record-words      the answer, by the library's
+--     refused_words, record_words_lem  the answer, by the library's
 -- Assumes nothing.
 use mathlib.Core.Path.{◌≡◌}
 use Prim.Native.Nat.{ℕ}

@@ -1,6 +1,6 @@
 -- The MM text alone, from a call that writes the ML bytes too, to a buffer that has room for any.
---     ample-ml      the buffer never refuses
---     text-alone    what the call answers and leaves, without the ML bytes
+--     ample_ml      the buffer never refuses
+--     text_alone    what the call answers and leaves, without the ML bytes
 -- Assumes nothing.
 use mathlib.Core.Path.{◌≡◌, refl, ap, ◌∙◌}
 use mathlib.Core.Bool.{Bool, true, false}

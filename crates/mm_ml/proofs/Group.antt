@@ -1,9 +1,9 @@
 -- Laws of a strand's group and of what goes to the outputs.
---     group-length                       the group's text has 5 bytes besides the listed skip counts
---     prefix-copied, room-behind, semicolon-fits, group-written     the prefix, the skip counts and the semicolon, one after another
---     calls-enabled, calls-disabled      the positions that the tags report
---     text-none, text-some, array-length     what goes to the outputs
---     mm-most, ml-most                   how long an output can need to be
+--     group_length                       the group's text has 5 bytes besides the listed skip counts
+--     prefix_copied, room_behind, semicolon_fits, group_written     the prefix, the skip counts and the semicolon, one after another
+--     calls_enabled, calls_disabled      the positions that the tags report
+--     text_none, text_some, array_length     what goes to the outputs
+--     mm_most, ml_most                   how long an output can need to be
 -- Assumes nothing.
 use mathlib.Core.Path.{◌≡◌, refl, sym, ap, ◌∙◌}
 use mathlib.Core.Bool.{Bool, true, false}

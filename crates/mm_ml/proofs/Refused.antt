@@ -1,8 +1,8 @@
 -- The refusal of a call that tests the strand first and the room of its outputs after.
 --     evident               a strand that is not refused
---     both-tests            the number, by the two tests
---     refused-by-strand, refused-by-room     the number, by the test that gave it
---     enough-room           two outputs that are not refused
+--     both_tests            the number, by the two tests
+--     refused_by_strand, refused_by_room     the number, by the test that gave it
+--     enough_room           two outputs that are not refused
 -- Assumes nothing.
 use mathlib.Core.Path.{◌≡◌, refl, ◌∙◌}
 use mathlib.Core.Bool.{Bool, true, false, cond, ◌||◌, true≢false}

@@ -2,7 +2,7 @@
 --     Listing      counts the listed skip counts and their length
 --     Writing      writes them behind what stands before place 4
 --     Scoring      writes the ML bytes
---     with-comma, after-comma           a comma and a count, written at a place
+--     with_comma, after_comma           a comma and a count, written at a place
 -- Assumes nothing.
 use mathlib.Core.Path.{◌≡◌, refl, sym, ap, ◌∙◌}
 use mathlib.Core.Bool.{Bool, true, false, cond}

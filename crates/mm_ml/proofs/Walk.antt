@@ -1,9 +1,9 @@
 -- A walk along a sequence, one position a turn, that counts the tracked letters since the last called position.
 --     Passing                          the invariant: skip letters are passed over when i positions are behind
 --     begin, next                      the two facts that such a loop asks for
---     called-next, skips-next          what a position adds to the called positions and to their listed skip counts
---     calls_last, listed-last          both are longest at the end
---     calls-within, listed-within      how many called positions there are, and how long their listed skip counts, at most
+--     called_next, skips_next          what a position adds to the called positions and to their listed skip counts
+--     calls_last, listed_last          both are longest at the end
+--     calls_within, listed_within      how many called positions there are, and how long their listed skip counts, at most
 -- For any test of a letter and of a position. Assumes nothing.
 use mathlib.Core.Path.{◌≡◌, refl, sym, ap, ◌∙◌}
 use mathlib.Core.Bool.{Bool, true, false, cond}

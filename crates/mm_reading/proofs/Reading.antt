@@ -1,7 +1,7 @@
 -- The text of a group and the sequence give the called positions back: `read_back`.
---     skips-read            the skip counts come back from the text
---     calls-read            positions come back from their skip counts, if they rise and stand at tracked letters
---     uncalled-between      the letters that a skip count counts are left uncalled
+--     skips_read            the skip counts come back from the text
+--     calls_read            positions come back from their skip counts, if they rise and stand at tracked letters
+--     uncalled_between      the letters that a skip count counts are left uncalled
 -- Assumes nothing.
 use mathlib.Core.Path.{◌≡◌, refl, ap, ◌∙◌}
 use mathlib.Core.Bool.{Bool, true, false, cond}

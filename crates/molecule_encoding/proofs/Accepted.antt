@@ -1,6 +1,6 @@
 -- Which bytes are accepted, by the tests in the order in which they are made.
 --     in_parts     the size, then the fields by themselves and in order, then what the strands and the list have
---     too-big, unfit, incomplete, complete     what the reader then answers
+--     too_big, unfit, incomplete, complete     what the reader then answers
 -- Assumes nothing.
 use mathlib.Core.Path.{◌≡◌, refl, ap}
 use mathlib.Core.Bool.{Bool, true, false, cond, not, ◌&&◌}

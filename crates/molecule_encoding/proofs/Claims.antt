@@ -1,7 +1,7 @@
 -- What the reader promises, in the format's words: proofs of specs/Claims.antt.
---     accepts, only, only-13     of `Accepts`, `Only` and `Only13`
+--     accepts, only, only_13     of `Accepts`, `Only` and `Only13`
 --     span_value     the place of a tag's value holds the field's value
---     value-fits     the value of a tag that is there is of the tag's widths, an annotation's pattern and marks 0 or 1
+--     value_fits     the value of a tag that is there is of the tag's widths, an annotation's pattern and marks 0 or 1
 -- Assumes nothing.
 use mathlib.Core.Path.{◌≡◌, refl, sym, ap, ◌∙◌}
 use mathlib.Core.Bool.{Bool, true, false, cond, not, ◌&&◌, ◌||◌, true≢false}

@@ -1,7 +1,7 @@
 -- Laws of the order of tags, and of the fields from a place on that are in order and well-formed.
---     not-below, still-ascending     what follows a tag is not below it; fields after a tag ascend
---     fit-end, fit_cut, fit_next, fit-not     `fields_fit` by what begins at a place
---     fit-rest     where all fit, those after the first do
+--     not_below, still_ascending     what follows a tag is not below it; fields after a tag ascend
+--     fit_end, fit_cut, fit_next, fit_not     `fields_fit` by what begins at a place
+--     fit_rest     where all fit, those after the first do
 -- Assumes nothing.
 use mathlib.Core.Path.{◌≡◌, refl, sym, ap, ◌∙◌}
 use mathlib.Core.Bool.{Bool, true, false, not, ◌&&◌, ◌||◌, true≢false}

@@ -1,7 +1,7 @@
 -- The parts of an accepted molecule: the proof of specs/Claims.antt's `Holds`. Its reads are all that stands after the list's marker.
 --     holds            of `Holds`
---     in_order, all_fit, a-whole, b-whole     what the format asks of fields, one by one
---     tagged-reads, tagged-short     fields 30 are reads, each of a length that two bytes can say
+--     in_order, all_fit, a_whole, b_whole     what the format asks of fields, one by one
+--     tagged_reads, tagged_short     fields 30 are reads, each of a length that two bytes can say
 -- Assumes nothing.
 use mathlib.Core.Path.{◌≡◌, refl, sym, ap, ◌∙◌}
 use mathlib.Core.Logic.{◌⊎◌, inl, inr, ⊎_elim}

@@ -1,7 +1,7 @@
 -- Laws of where the value of a tag is.
---     find_none, find-here, find_past, find-next     by what begins at a place
+--     find_none, find_here, find_past, find_next     by what begins at a place
 --     past             no field is below a tag that all come after
---     span-present     a tag's value has a place exactly where a field has the tag
+--     span_present     a tag's value has a place exactly where a field has the tag
 -- Assumes nothing.
 use mathlib.Core.Path.{◌≡◌, refl, sym, ap, ◌∙◌}
 use mathlib.Core.Bool.{Bool, true, false, cond, ◌||◌}

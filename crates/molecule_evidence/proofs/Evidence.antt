@@ -1,7 +1,7 @@
 -- Laws of evidence as bytes.
---     length-position                      how many bytes there are
---     mark-at, count_at                    a position's mark and counts in the bytes of all
---     marks-back, unconverted-back, converted-back     what was written is read back; counts of one length with the marks
+--     length_position                      how many bytes there are
+--     mark_at, count_at                    a position's mark and counts in the bytes of all
+--     marks_back, unconverted_back, converted_back     what was written is read back; counts of one length with the marks
 -- Assumes nothing.
 use mathlib.Core.Path.{◌≡◌, refl, sym, ap, ◌∙◌}
 use mathlib.Core.List.{List, [], ◌∷◌}

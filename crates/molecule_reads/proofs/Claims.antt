@@ -1,7 +1,7 @@
 -- What the reads of a run are: proofs of specs/Claims.antt.
---     each_read, only-reads     of `EachRead` and `OnlyReads`
---     only-these      fields that are reads, by the format's words
---     none-leaves     every read's part lies within the run, so that row 10 refuses none
+--     each_read, only_reads     of `EachRead` and `OnlyReads`
+--     only_these      fields that are reads, by the format's words
+--     none_leaves     every read's part lies within the run, so that row 10 refuses none
 --     told            of a run of reads, each has its field's flags, and its part holds the value after them
 -- Assumes nothing.
 use mathlib.Core.Path.{◌≡◌, refl, sym, ap, ap₂, ◌∙◌}

@@ -1,6 +1,6 @@
 -- A walk over the reads of a run, from one `next_read` to the next: what its answer at a place says of the reads from there on.
---     run_end, run-broken     there are none, and the run is whole or broken
---     run-next                a read, and the reads from the next place on
+--     run_end, run_broken     there are none, and the run is whole or broken
+--     run_next                a read, and the reads from the next place on
 -- Assumes nothing.
 use mathlib.Core.Path.{◌≡◌, refl, sym, ap, ◌∙◌}
 use mathlib.Core.Bool.{Bool, true, false, cond, not, ◌&&◌}

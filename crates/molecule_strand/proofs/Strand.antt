@@ -1,9 +1,9 @@
 -- Laws of a strand given as bytes.
---     narrow-whole     of at most 1,024 positions an array, nothing is cut
---     of-seen          what was read of what is looked at, by what the code has of that
---     numbers-seen     the same of depths and errors alone
---     numbers_fit      what was read of these is there; plain-within: and is the strand without annotation within that size
---     Room             five arrays of one size; read_fits, read-within: what was read to them is there, and is the strand within that size
+--     narrow_whole     of at most 1,024 positions an array, nothing is cut
+--     of_seen          what was read of what is looked at, by what the code has of that
+--     numbers_seen     the same of depths and errors alone
+--     numbers_fit      what was read of these is there; plain_within: and is the strand without annotation within that size
+--     Room             five arrays of one size; read_fits, read_within: what was read to them is there, and is the strand within that size
 -- Assumes nothing.
 use mathlib.Core.Path.{◌≡◌, sym, ap, ◌∙◌}
 use mathlib.Core.Bool.{Bool, true, false}

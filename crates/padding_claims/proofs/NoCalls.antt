@@ -1,6 +1,6 @@
 -- The claims of specs/NoCalls.antt.
---     no-call-cons            nc of a strand with one more position in front
---     padded-no-calls         nc of a padded strand
+--     no_call_cons            nc of a strand with one more position in front
+--     padded_no_calls         nc of a padded strand
 -- Assumes nothing.
 use mathlib.Core.Path.{◌≡◌, refl, sym, ap, ◌∙◌}
 use mathlib.Core.Bool.{Bool, true, false, cond, ◌&&◌}

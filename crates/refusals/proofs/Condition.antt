@@ -1,7 +1,7 @@
 -- What a condition of the table says where it is not met.
---     not-too-long, not-ragged, not-too-short     of each length
---     all-reach                                   the other way round, of row 12
---     neither, nor-where, both_hold               of tests joined by `||` and `&&`
+--     not_too_long, not_ragged, not_too_short     of each length
+--     all_reach                                   the other way round, of row 12
+--     neither, nor_where, both_hold               of tests joined by `||` and `&&`
 -- Assumes nothing.
 use mathlib.Core.Path.{◌≡◌, refl, sym}
 use mathlib.Core.Bool.{Bool, true, false, not, ◌&&◌, ◌||◌, true≢false}

@@ -1,6 +1,6 @@
 -- The library's calls, told by numbers: what a call promises of the choices that it was passed it promises of the numbers' choices.
 --     either                                           the tests of two numbers, of which the code has the answers
---     restored-told, bases-told, tags-told, tag-told, duplex-told     of each call
+--     restored_told, bases_told, tags_told, tag_told, duplex_told     of each call
 -- Assumes nothing.
 use Prim.Native.Nat.{ℕ}
 use mathlib.Core.Path.{◌≡◌, subst}

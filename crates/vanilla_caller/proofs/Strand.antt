@@ -1,6 +1,6 @@
 -- What a call that writes a strand leaves in its outputs, by the number that its code has, and what the rows on lengths leave.
---     leaves-refused     refused: every output is as it was
---     leaves-passed      not refused: every output has its array written to its front
+--     leaves_refused     refused: every output is as it was
+--     leaves_passed      not refused: every output has its array written to its front
 --     even, roomy        what rows 8 and 12 leave
 -- Assumes nothing.
 use mathlib.Core.Path.{◌≡◌, ◌∙◌}

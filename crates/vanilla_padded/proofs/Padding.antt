@@ -1,7 +1,7 @@
 -- Laws of padding, for any element type.
---     pad_to-length     a padded array has the new length
---     pad_to-same       to the same length it is a copy
---     padded-left, padded-right     what a fill and a copy, each of a part of the output, write
+--     pad_to_length     a padded array has the new length
+--     pad_to_same       to the same length it is a copy
+--     padded_left, padded_right     what a fill and a copy, each of a part of the output, write
 -- Assumes nothing.
 use mathlib.Core.Path.{◌≡◌, refl, ◌∙◌}
 use mathlib.Core.Bool.{Bool, true, false}

@@ -1,4 +1,4 @@
--- `lists::u16s::at_u16` meets its contract: within the list by `getD-within`, past its end by `get_or`'s own law. Assumes nothing.
+-- `lists::u16s::at_u16` meets its contract: within the list by `get_d_within`, past its end by `get_or`'s own law. Assumes nothing.
 use mathlib.Core.Path.{sym}
 use native.Mathlib.Omega.{arith}
 use lib.ListN.{get_or-eq_default}
