@@ -9,7 +9,7 @@ import re
 # A line of `rt ci` or `rt must-fail`: the crate, the edit's file, what came of it, in brackets what the refusal lacks, and the first thing that does not hold.
 SAID = re.compile(r"^rt: must-fail (\w+)/(\S+): (refused, as it must be|[A-Z ]+)(?: \(([^)]*)\))?(?:: (.*))?$", re.M)
 # The first error of an edit that only makes the proof file unfit for the code shows nothing.
-SHAPE = re.compile(r"can be named from here|has no field|has no `|cannot continue|not in scope|is not declared|unknown name|does not parse|syntax error|was not admitted", re.I)
+SHAPE = re.compile(r"can be named from here|has no field|has no `|cannot continue|not in scope|is not declared|unknown name|does not parse|syntax error|was not admitted|\(nearest: ", re.I)
 
 
 class Misfit(Exception):
