@@ -6,25 +6,26 @@
 --     by_group_joined                  so that what they stand for is, too
 --     read_front, all_fit              what is read and written where there is room for all
 --     begin_read, read_within, read_room, next_read_lem  a loop that writes what groups stand for, as far as there is room (`Copying`)
---     stored                           a run of stores, one after another
+--     part_stored                      a part that is stored at once
 --     Joining                          the invariant of a loop that writes groups one after another
 --     begin_join, same_join, join_room, next_join, done_join      the five facts that such a loop asks for
---     Writing                          the same for a group for each element of a list, as many as there is room for: begin-, next-, done-
+--     Writing                          the same for a group for each element of a list, as many as there is room for: begin-, -room, next-, done-
 -- Assumes nothing.
 use mathlib.Core.Path.{◌≡◌, refl, sym, ap, ◌∙◌}
 use mathlib.Core.Bool.{Bool, true, false}
-use mathlib.Core.List.{List, [], ◌∷◌, ◌++◌}
+use mathlib.Core.List.{List, ◌++◌, append_assoc}
 use Prim.Native.Nat.{ℕ, zero, suc, ◌+◌, ◌*◌, ◌/◌, ◌≤◌, ◌<◌, min}
 use native.Mathlib.Omega.{arith}
 use native.Mathlib.Nat.{add-zero, add-suc, suc-add, mul-zero, mul-suc, mul-le-mul_left, mul_comm, mul-div-le, mul-div_cancel_left, le-div_iff_mul-le}
 use native.Mathlib.Numerals.{add-one}
 use borrow.Author.Tests.{ltb-true, ltb-false}
+use borrow.Rule.Slice.PartMut.{put_mid, mid_of}
 use lib.Dec.{ltb}
 use lib.ListN.{length, take, drop, set, get_or, length-append, length-take, length-drop, take-append-drop}
 use lib.Seq.{sets, sets-eq, drop-cons, take-append-le, drop-append-le, take-append_seam, drop-append-add, drop-drop, length-take-le, take_all, drop_at, get_or-take, ext_get_or}
 use Rattle.lists.specs.Output.{put}
 use Rattle.lists.specs.Table.{tabulate}
-use Rattle.lists.proofs.Output.{Copying, begin_copy, next_copy, length_put, put_fitting}
+use Rattle.lists.proofs.Output.{Copying, begin_copy, next_copy, length_put, put_fitting, put_whole}
 use Rattle.lists.proofs.Table.{length_tabulate, get_d_tabulate}
 use Rattle.byte_numbers.specs.Groups.{group, joined, by_group}
 
@@ -122,17 +123,17 @@ module _ {A : Type 0} (width : ℕ) (f : ℕ → List A) (each : (k : ℕ) → l
       by_group_at width g (joined n f) i d (omega (arith, length_by_group width g (joined n f))) ∙ ap g (group_joined n i more) ∙ same i more)
 
 module _ {A : Type 0} where
-  -- Stores at at + k, at + k + 1, .., as straight-line code has them.
-  abbrev pub stores : List A → ℕ → ℕ → List A → List A
-  stores l at k [] = l
-  stores l at k (v ∷ vs) = stores (set l (at + k) v) at (suc k) vs
-
-  all_stored : (l : List A) (at k : ℕ) (vs : List A) → stores l at k vs ≡ sets l (at + k) vs
-  all_stored l at k [] = refl
-  all_stored l at k (v ∷ vs) = rw (← add-suc) (all_stored (set l (at + k) v) at (suc k) vs)
-
-  pub stored : (l : List A) (at : ℕ) (v : A) (vs : List A) → stores (set l at v) at 1 vs ≡ sets l at (v ∷ vs)
-  stored l at v vs = all_stored (set l at v) at 1 vs ∙ ap (λ (k : ℕ). sets (set l at v) k vs) (add-one at)
+  -- vs is copied to a part that has as many places.
+  pub part_stored :
+      (l vs : List A) (at k : ℕ) {Y : List A}
+      → length vs ≡ k
+      → at + k ≤ length l
+      → Y ≡ put (take (length (mid_of at k l)) vs) (mid_of at k l)
+      → put_mid at k l Y ≡ sets l at vs
+  part_stored l vs at k {Y} e h f =
+      let size : length (mid_of at k l) ≡ k = simp (length-take, length-drop) (omega arith) in
+      let all : Y ≡ vs = f ∙ put_fitting vs (mid_of at k l) (omega arith) ∙ put_whole vs (mid_of at k l) (e ∙ sym size) in
+      rw (all, sets-eq vs l at (omega arith), drop-drop, e) (simp append_assoc)
 
   -- vs is stored right after what was written.
   store_next : (xs vs out : List A) {at : ℕ} → at ≡ length xs → at + length vs ≤ length out → sets (put xs out) at vs ≡ put (xs ++ vs) out
@@ -199,6 +200,9 @@ module _ {A B : Type 0} where
         }
 
   module _ {width n : ℕ} {f : B → ℕ → List A} {d : B} {xs : List B} {before : List A} {i : ℕ} {now : List A} (w : Writing width n f d xs before i now) where
+    pub write_room : i < n → width * i + width ≤ length now
+    write_room h = join_room w.joining h
+
     pub next_write : {L : List A} → i < n → L ≡ sets now (width * i) (f (get_or xs i d) i) → Writing width n f d xs before (i + 1) L
     next_write h e = record {
       count = w.count;

@@ -20,9 +20,14 @@ bytes_of (suc width) n = n % 256 ∷ bytes_of width (n / 256)
 abbrev pub numbers_of : ℕ → List ℕ → List ℕ
 numbers_of width bytes = by_group width number_of bytes
 
+module _ {A : Type 0} where
+  -- The bytes of all of a list, by those of each.
+  unfoldable pub all_bytes : (A → List ℕ) → A → List A → List ℕ
+  all_bytes bytes d xs = joined (length xs) (λ i. bytes (get_or xs i d))
+
 -- The bytes of some numbers.
-unfoldable pub bytes_of_all : ℕ → List ℕ → List ℕ
-bytes_of_all width numbers = joined (length numbers) (λ i. bytes_of width (get_or numbers i 0))
+abbrev pub bytes_of_all : ℕ → List ℕ → List ℕ
+bytes_of_all width numbers = all_bytes (bytes_of width) 0 numbers
 
 -- The widths in use.
 abbrev pub words16 : List ℕ → List ℕ

@@ -1,2 +1,3 @@
 pub mod Bytes
 pub mod Groups
+pub mod Lengths

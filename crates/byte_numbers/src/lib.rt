@@ -1,111 +1,114 @@
-// Numbers as bytes, low byte first, in the widths in use: read from bytes, and written as bytes to a lent output, as many whole
-// numbers as there is room for. Its specs also have groups of one width, for what is made of several numbers. Uses lists.
+// Numbers as bytes, low byte first, for each type of number in use: read from bytes, and written as bytes to a lent output, as many
+// whole numbers as there is room for. Its specs also have groups of one width, for what is made of several numbers. Uses lists.
 #![tactic(auto)]
 
-ghost use Rattle.std.specs.Prelude.{◌≡◌, [], ◌∷◌, ◌+◌, ◌/◌, ◌≤◌, length, take};
-ghost use Rattle.std.proofs.lemmas.List.Edits.{sets};
+ghost use Rattle.std.specs.Prelude.{◌≡◌, ◌/◌, ◌<◌, List, ℕ, length, take};
 ghost use Rattle.lists.specs.Output.{put};
-ghost use Rattle.byte_numbers.specs.Bytes.{number_of, bytes_of, words16, words32, bytes16, bytes32, word};
+ghost use Rattle.byte_numbers.specs.Bytes.{number_of, bytes_of, all_bytes};
+ghost use Rattle.byte_numbers.specs.Groups.{by_group};
+ghost use Rattle.byte_numbers.specs.Lengths.{length_bytes};
+ghost use Rattle.std.proofs.Common.{rules};
 
-use lists::smaller;
+use lists::{copy, get_or};
 
-// The number of two bytes.
-pub fn u16_of(b0: u8, b1: u8) -> u16
-    ensures { result ≡ word b0 b1 }
-{
-    b0 as u16 + 256 * b1 as u16
+// A type of number that stands as so many bytes.
+pub trait LittleEndian: Copy {
+    ghost SIZE: { ℕ };
+
+    const SIZE: usize;
+
+    ghost nought: { Self };
+
+    ghost of_bytes: { List ℕ → Self };
+
+    ghost to_bytes: { Self → List ℕ };
+
+    // The number of the first bytes; where there are fewer than it has, those above are 0.
+    fn from_bytes(bytes: &[u8]) -> Self
+        ensures { result ≡ of_bytes (take SIZE bytes.now) };
+
+    // Writes as many of its bytes as there is room for to the front of out.
+    fn write_bytes(self, out: &mut [u8])
+        ensures { out.new ≡ put (take (length out.old) (to_bytes self)) out.old };
+
+    ghost some: { 0 < SIZE };
+
+    ghost fixed: { (x : Self) → length (to_bytes x) ≡ SIZE };
 }
 
-// The number of four bytes.
-pub fn u32_of(b0: u8, b1: u8, b2: u8, b3: u8) -> u32
-    ensures { result ≡ number_of (b0 ∷ b1 ∷ b2 ∷ b3 ∷ []) }
-{
-    b0 as u32 + 256 * b1 as u32 + 65536 * b2 as u32 + 16777216 * b3 as u32
+impl LittleEndian for u16 {
+    ghost SIZE = { 2 };
+
+    const SIZE: usize = 2;
+
+    ghost nought = { 0 };
+
+    ghost of_bytes = { number_of };
+
+    ghost to_bytes = { bytes_of 2 };
+
+    ghost some = { Prim.search rules };
+
+    ghost fixed = { length_bytes 2 };
+
+    fn from_bytes(bytes: &[u8]) -> u16 {
+        u16::from_le_bytes([get_or(bytes, 0, 0), get_or(bytes, 1, 0)])
+    }
+
+    fn write_bytes(self, out: &mut [u8]) {
+        copy(&self.to_le_bytes(), out);
+    }
 }
 
-// The bytes of a number.
-pub fn u16_bytes(n: u16) -> [u8; 2]
-    ensures { result ≡ bytes_of 2 n }
-{
-    [(n % 256) as u8, (n / 256) as u8]
-}
+impl LittleEndian for u32 {
+    ghost SIZE = { 4 };
 
-pub fn u32_bytes(n: u32) -> [u8; 4]
-    ensures { result ≡ bytes_of 4 n }
-{
-    [
-        (n % 256) as u8,
-        (n / 256 % 256) as u8,
-        (n / 65536 % 256) as u8,
-        (n / 16777216) as u8,
-    ]
+    const SIZE: usize = 4;
+
+    ghost nought = { 0 };
+
+    ghost of_bytes = { number_of };
+
+    ghost to_bytes = { bytes_of 4 };
+
+    ghost some = { Prim.search rules };
+
+    ghost fixed = { length_bytes 4 };
+
+    fn from_bytes(bytes: &[u8]) -> u32 {
+        u32::from_le_bytes([
+            get_or(bytes, 0, 0),
+            get_or(bytes, 1, 0),
+            get_or(bytes, 2, 0),
+            get_or(bytes, 3, 0),
+        ])
+    }
+
+    fn write_bytes(self, out: &mut [u8]) {
+        copy(&self.to_le_bytes(), out);
+    }
 }
 
 // Reads as many numbers as out has room for.
-pub fn read_u16s(bytes: &[u8], out: &mut [u16])
-    ensures { out.new ≡ put (take (length out.old) (words16 bytes.now)) out.old }
+pub fn read<N: LittleEndian>(bytes: &[u8], out: &mut [N])
+    ensures { out.new ≡ put (take (length out.old) (by_group N.SIZE N.of_bytes bytes.now)) out.old }
 {
-    let n = smaller(out.len(), bytes.len() / 2);
-    let mut i = 0;
-    while i < n {
-        let at = 2 * i;
-        out[i] = u16_of(bytes[at], bytes[at + 1]);
-        i += 1;
+    let size = N::SIZE;
+    let n = out.len().min(bytes.len() / size);
+    for i in 0..n {
+        let at = size * i;
+        out[i] = N::from_bytes(&bytes[at..at + size]);
     }
-}
-
-pub fn read_u32s(bytes: &[u8], out: &mut [u32])
-    ensures { out.new ≡ put (take (length out.old) (words32 bytes.now)) out.old }
-{
-    let n = smaller(out.len(), bytes.len() / 4);
-    let mut i = 0;
-    while i < n {
-        let at = 4 * i;
-        out[i] = u32_of(bytes[at], bytes[at + 1], bytes[at + 2], bytes[at + 3]);
-        i += 1;
-    }
-}
-
-// Writes a number's bytes from a place on.
-fn store_u16(n: u16, at: usize, out: &mut [u8])
-    requires { at + 2 ≤ length out.old }
-    ensures { out.new ≡ sets out.old at (bytes_of 2 n) }
-{
-    let b = u16_bytes(n);
-    out[at] = b[0];
-    out[at + 1] = b[1];
-}
-
-fn store_u32(n: u32, at: usize, out: &mut [u8])
-    requires { at + 4 ≤ length out.old }
-    ensures { out.new ≡ sets out.old at (bytes_of 4 n) }
-{
-    let b = u32_bytes(n);
-    out[at] = b[0];
-    out[at + 1] = b[1];
-    out[at + 2] = b[2];
-    out[at + 3] = b[3];
 }
 
 // Writes the bytes of as many numbers as out has room for.
-pub fn write_u16s(numbers: &[u16], out: &mut [u8])
-    ensures { out.new ≡ put (bytes16 (take (length out.old / 2) numbers.now)) out.old }
+pub fn write<N: LittleEndian>(numbers: &[N], out: &mut [u8])
+    ensures { out.new ≡ put (all_bytes N.to_bytes N.nought (take (length out.old / N.SIZE) numbers.now)) out.old }
 {
-    let n = smaller(out.len() / 2, numbers.len());
-    let mut i = 0;
-    while i < n {
-        store_u16(numbers[i], 2 * i, out);
-        i += 1;
-    }
-}
-
-pub fn write_u32s(numbers: &[u32], out: &mut [u8])
-    ensures { out.new ≡ put (bytes32 (take (length out.old / 4) numbers.now)) out.old }
-{
-    let n = smaller(out.len() / 4, numbers.len());
-    let mut i = 0;
-    while i < n {
-        store_u32(numbers[i], 4 * i, out);
-        i += 1;
+    let size = N::SIZE;
+    let n = (out.len() / size).min(numbers.len());
+    for i in 0..n {
+        let at = size * i;
+        numbers[i].write_bytes(&mut out[at..at + size]);
     }
 }

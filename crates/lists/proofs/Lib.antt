@@ -3,8 +3,7 @@ pub mod Count
 pub mod Every
 pub mod Indices
 pub mod Output
-pub mod Part
-pub mod Place
+pub mod Parts
 pub mod Table
 pub mod Told
 pub mod Between

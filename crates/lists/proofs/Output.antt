@@ -1,81 +1,31 @@
--- Laws of `answer`, `after` and `put`, and the invariant of a loop that fills a lent output, for any element type.
---     answer_refused, answer_passed      what a call answers, by the number that its code has
---     answer_then, answer_map            of a call that is refused in two steps; that hands on another's answer
---     after_refused, after_passed        what an output then holds
---     written, after_none                of a call that was not refused; to which nothing goes
+-- Laws of `put`, and the invariant of a loop that fills a lent output, for any element type.
 --     put_none, put_take, put_over       nothing written, what stands there written again, and something else over it
 --     length_put, put_holds, front_of    the length of a written output, and what stands at its front
 --     put_snoc, put_next                 what is written right after
 --     put_fitting, fitting_snoc          of what goes there, as much as there is room for
+--     copied_front                       a copy of as much as there is room for
 --     copied_part, copied_map            a copy of so many places
 --     copy_next, fill_next               by a call that copies to a part of it, or fills that
 --     Filling                            the invariant: the first i of the n places are written, the rest are as they were
 --     begin, fits, next, done, same      the five facts that such a loop asks for
---     Copying, Repeating                 the same for a loop that copies, or repeats one value: begin-, next-, done-
+--     Copying                            the same for a loop that writes as much of a list as there is room for: begin-, next-
 -- Assumes nothing.
 use mathlib.Core.Path.{◌≡◌, refl, sym, ap, ◌∙◌}
-use mathlib.Core.Bool.{Bool, true, false, cond}
+use mathlib.Core.Bool.{Bool, true, false}
 use mathlib.Core.List.{List, [], ◌∷◌, ◌++◌, map, append-nil, append_assoc}
 use Prim.Native.Nat.{ℕ, zero, suc, ◌+◌, ◌-◌, ◌≤◌, ◌<◌, min}
 use native.Mathlib.Nat.{sub-zero}
 use native.Mathlib.Omega.{arith}
-use lib.Dec.{eqb, ltb}
-use borrow.Author.Tests.{ne_eqb, ltb-true, ltb-false}
+use lib.Dec.{ltb}
+use borrow.Author.Tests.{ltb-true, ltb-false}
 use native.Mathlib.Numerals.{add-one}
-use lib.ListN.{length, take, drop, set, get_or, replicate, length-append, length-take, length-drop, length-map, length-replicate, get_or-replicate, take-append-drop}
+use lib.ListN.{length, take, drop, set, get_or, replicate, length-append, length-take, length-drop, length-map, length-replicate, take-append-drop}
 use borrow.Rule.Slice.PartMut.{put_mid, mid_of}
 use lib.Seq.{set-append_seam, set_out, take-suc, take-append_seam, take-append-le, drop-append_seam, drop-append-le, drop-append-add, drop-drop, drop-cons, drop-length, length-take-le, take_all, append_snoc, get_or-take}
-use Rattle.lists.specs.Output.{unless, answer, put, after}
+use Rattle.lists.specs.Output.{put}
+use Rattle.lists.proofs.Parts.{take_min}
 
 module _ {A : Type 0} where
-  unless_refused : (n : ℕ) (refused done : A) → (n ≡ 0 → ⊥) → refused ≡ unless n refused done
-  unfolding unless
-  unless_refused zero refused done h = absurd (h refl)
-  unless_refused (suc n) refused done h = refl
-
-  unless_passed : {n : ℕ} (refused done : A) → n ≡ 0 → done ≡ unless n refused done
-  unfolding unless
-  unless_passed refused done e = rw e
-
-  -- n is the number that the code has, and number the one of the definition.
-  pub answer_refused : (refused : ℕ → A) (x : A) {n number : ℕ} → n ≡ number → (n ≡ 0 → ⊥) → refused n ≡ answer refused number x
-  unfolding answer
-  answer_refused refused x {n} e h = rw (← e) (unless_refused n (refused n) x h)
-
-  pub answer_passed : (refused : ℕ → A) (x : A) {n number : ℕ} → n ≡ number → n ≡ 0 → x ≡ answer refused number x
-  unfolding answer
-  answer_passed refused x {n} {number} e z = unless_passed (refused number) x (sym e ∙ z)
-
--- A call that was not refused with one number may be with another.
-pub answer_then : {A : Type 0} (refused : ℕ → A) (n m : ℕ) (x : A) → answer refused n (answer refused m x) ≡ answer refused (cond (eqb n 0) m n) x
-unfolding answer unless
-answer_then refused zero m x = refl
-answer_then refused (suc n) m x = rw (ne_eqb (suc n) 0 (λ e. omega arith))
-
--- A call that hands on the answer of another by f.
-pub answer_map : {A B : Type 0} (f : A → B) (refused : ℕ → A) (number : ℕ) (x : A) → f (answer refused number x) ≡ answer (λ n. f (refused n)) number (f x)
-unfolding answer unless
-answer_map f refused zero x = refl
-answer_map f refused (suc n) x = refl
-
-module _ {A : Type 0} where
-  pub after_refused : (xs out : List A) {n number : ℕ} → n ≡ number → (n ≡ 0 → ⊥) → out ≡ after number xs out
-  unfolding after
-  after_refused xs out {n} e h = rw (← e) (unless_refused n out (put xs out) h)
-
-  pub after_passed : (xs out : List A) {n number : ℕ} → n ≡ number → n ≡ 0 → put xs out ≡ after number xs out
-  unfolding after
-  after_passed xs out e z = unless_passed out (put xs out) (sym e ∙ z)
-
-  pub written : (xs out : List A) {number : ℕ} {now : List A} → now ≡ after number xs out → number ≡ 0 → now ≡ put xs out
-  written xs out e z = e ∙ sym (after_passed xs out refl z)
-
-  -- Refused or not.
-  pub after_none : (number : ℕ) (out : List A) → out ≡ after number [] out
-  unfolding after put unless
-  after_none zero out = refl
-  after_none (suc n) out = refl
-
   pub put_none : (out : List A) → out ≡ put [] out
   unfolding put
   put_none out = refl
@@ -165,35 +115,20 @@ module _ {A : Type 0} where
     filling = next d _ c.filling h (sym (get_or-take (length before) xs i d (omega arith)));
   }
 
-  -- The invariant of a loop that writes one value to every place: all n of them.
-  pub record Repeating (n : ℕ) (value : A) (before : List A) (i : ℕ) (now : List A) : Type 0 where
-    pub count : n ≡ length before
-    pub filling : Filling n (replicate n value) before i now
-
-  pub begin_fill : (value : A) (before : List A) → Repeating (length before) value before 0 before
-  begin_fill value before = record { count = refl; filling = begin (length-replicate (length before) value) (omega arith) }
-
-  pub next_fill : {n : ℕ} {value : A} {before now : List A} {i : ℕ} → Repeating n value before i now → i < n → Repeating n value before (i + 1) (set now i value)
-  next_fill {n} {value} {before} {now} {i} r h = record {
-    count = r.count;
-    filling = next value _ r.filling h (sym (get_or-replicate n i value value h));
-  }
-
   -- Every place is written.
   pub put_whole : (xs out : List A) → length xs ≡ length out → put xs out ≡ xs
   unfolding put
   put_whole xs out e = rw (e, drop-length, append-nil)
 
-  pub done_fill : {n : ℕ} {value : A} {before now : List A} {i : ℕ} → Repeating n value before i now → n ≤ i → now ≡ replicate (length before) value
-  done_fill {n} {value} {before} r h =
-      done r.filling h
-      ∙ put_whole (replicate n value) before (length-replicate n value ∙ r.count)
-      ∙ ap (λ (k : ℕ). replicate k value) r.count
-
 module _ {A : Type 0} where
   -- What does not fit is not copied; all fits where there is room.
   pub put_fitting : (xs out : List A) → length xs ≤ length out → put (take (length out) xs) out ≡ put xs out
   put_fitting xs out h = put_equal out (take_all (length out) xs h)
+
+  -- A copy to the first n places of an output, where n is as much as there is room for.
+  pub copied_front : (xs out : List A) {n : ℕ} {Y : List A} → n ≡ min (length out) (length xs) → Y ≡ take n xs → Y ++ drop n out ≡ put (take (length out) xs) out
+  unfolding put
+  copied_front xs out e f = rw (f, take_min (length out) xs refl e, length-take, ← e)
 
   -- One more element is stored behind what was written as far as there was room.
   pub fitting_snoc : (xs out : List A) (v : A) → set (put (take (length out) xs) out) (length xs) v ≡ put (take (length out) (xs ++ v ∷ [])) out

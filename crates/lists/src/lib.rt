@@ -1,23 +1,45 @@
-// Total reads, copies, fills, fronts and parts of slices, a module for each width in use. The laws on lists and on lent outputs that
-// every crate cites are in specs/ and proofs/, over any element type. Uses nothing.
+// Total reads, copies, fronts and parts of slices, for any element type. The laws on lists and on lent outputs that every crate
+// cites are in specs/ and proofs/, over any element type too. Uses nothing.
 #![tactic(auto)]
 
-mod u16s;
-mod u32s;
-mod u8s;
+ghost use Rattle.std.specs.Prelude.{◌≡◌, length, take, get_or};
+ghost use Rattle.lists.specs.Output.{put};
+ghost use Rattle.lists.specs.Part.{leaves, part};
 
-ghost use Rattle.std.specs.Prelude.{◌≡◌, min};
-ghost use Rattle.lists.specs.Part.{leaves};
-
-pub use u8s::{at_u8, copy_u8, fill_u8, front_u8, part_u8};
-pub use u16s::{at_u16, copy_u16, fill_u16, front_u16};
-pub use u32s::{at_u32, copy_u32, front_u32};
-
-// The smaller of two lengths.
-pub fn smaller(a: usize, b: usize) -> usize
-    ensures { result ≡ min a b }
+// The element at a place, or another value past the end.
+pub fn get_or<T: Copy>(xs: &[T], place: usize, otherwise: T) -> T
+    ensures { result ≡ get_or xs.now place otherwise }
 {
-    if a < b { a } else { b }
+    if place < xs.len() {
+        xs[place]
+    } else {
+        otherwise
+    }
+}
+
+// Writes as much of xs as there is room for to the front of out.
+pub fn copy<T: Copy>(xs: &[T], out: &mut [T])
+    ensures { out.new ≡ put (take (length out.old) xs.now) out.old }
+{
+    let n = out.len().min(xs.len());
+    out[..n].copy_from_slice(&xs[..n]);
+}
+
+// The first n elements, or all where there are fewer.
+pub fn front<T>(xs: &[T], n: usize) -> &[T]
+    ensures { result.now ≡ take n xs.now }
+{
+    &xs[..n.min(xs.len())]
+}
+
+// The part of so many elements from an offset on; empty where it would leave the buffer.
+pub fn part<T>(xs: &[T], offset: usize, count: usize) -> &[T]
+    ensures { result.now ≡ part offset count xs.now }
+{
+    if part_leaves(offset, count, xs.len()) {
+        return &[];
+    }
+    &xs[offset..offset + count]
 }
 
 // Whether the part of so many elements from an offset on leaves a buffer of a size. The sum of the two may pass a machine word.

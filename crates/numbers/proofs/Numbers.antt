@@ -1,10 +1,18 @@
--- The smallest of some numbers is no more than each of them. Assumes nothing.
+-- Laws of sums held to a limit, and of the smallest of some numbers.
+--     saturated       what std's `saturating_add` gives
+--     smallest_le     the smallest is no more than each
+-- Assumes nothing.
+use mathlib.Core.Path.{◌≡◌}
 use mathlib.Core.List.{List, [], ◌∷◌, foldl}
-use Prim.Native.Nat.{ℕ, zero, suc, ◌≤◌, ◌<◌, min}
+use Prim.Native.Nat.{ℕ, zero, suc, ◌+◌, ◌-◌, ◌^◌, ◌≤◌, ◌<◌, min}
 use native.Mathlib.Nat.{le_trans, min-le_left, min-le_right, not-suc-le-zero, le_of_suc-le-suc}
 use native.Mathlib.Omega.{arith}
 use lib.ListN.{length, get_or}
-use Rattle.numbers.specs.Numbers.{smallest}
+use Rattle.numbers.specs.Numbers.{saturating_add, smallest}
+
+pub saturated : (digits a b : ℕ) {n : ℕ} → n ≡ min (a + b) (2 ^ digits - 1) → n ≡ saturating_add digits a b
+unfolding saturating_add
+saturated digits a b e = e
 
 from_start : (ns : List ℕ) (start : ℕ) → foldl min start ns ≤ start
 from_start [] start = omega arith

@@ -3,11 +3,14 @@ use mathlib.Core.Path.{◌≡◌, refl}
 use mathlib.Core.Bool.{Bool, true, false, cond}
 use mathlib.Core.List.{List, [], ◌∷◌}
 use Prim.Native.Nat.{ℕ}
+use Rattle.std.proofs.Common.{Option, Some, None}
 use lib.Dec.{eqb}
-use borrow.Author.Tests.{eq-eqb}
-use Rattle.refusals.specs.Refusal.{Row, Broken, NoThresholds, TooManyThresholds, XyAboveTotal, YxAboveXy, TooLong, Ragged, TooManyReads, PartOutside, BelowLength, OutputTooShort, NoMi, NoStrand, Fault, code, of_code}
-use Rattle.refusals.specs.Claims.{EachOnce, Clear, NoneLost}
-use Rattle.refusals.proofs.Refusal.{passed}
+use borrow.Author.Tests.{eq-eqb, eqb-false}
+use Rattle.refusals.specs.declared.Refusal.{Refusal}
+use Rattle.refusals.specs.declared.Refusal.TheVariants.{Broken, NoThresholds, TooManyThresholds, XyAboveTotal, YxAboveXy, TooLong, Ragged, TooManyReads, PartOutside, BelowLength, OutputTooShort, NoMi, NoStrand}
+use Rattle.refusals.specs.Refusal.{Fault, number_of, code, of_code, refused, number_or_0}
+use Rattle.refusals.specs.Claims.{EachOnce, Clear, NoneLost, NoneLostByNumber, NothingWritten}
+use Rattle.refusals.proofs.InOrder.{numbered_from_1, passed}
 
 pub each_once : EachOnce
 each_once Broken = refl
@@ -32,7 +35,7 @@ without n f fs c = go (eqb (code f.row) n) c
     go true c = c.1
     go false c = c
 
-all_clear : (fs : List Fault) → ((row : Row) → Clear (of_code (code row) fs)) → Clear fs
+all_clear : (fs : List Fault) → ((row : Refusal) → Clear (of_code (code row) fs)) → Clear fs
 all_clear [] each = tt
 all_clear (f ∷ fs) each = (here, all_clear fs (λ row. without (code row) f fs (each row)))
   where
@@ -43,4 +46,14 @@ all_clear (f ∷ fs) each = (here, all_clear fs (λ row. without (code row) f fs
     here = (rw own at (each f.row)).0
 
 pub none_lost : NoneLost
-none_lost fs e = all_clear fs (λ row. passed row fs refl e)
+none_lost fs e = all_clear fs (λ row. passed row fs e)
+
+no_number : (refusal : Option Refusal) → number_or_0 refusal ≡ 0 → refusal ≡ None
+no_number None e = refl
+no_number (Some row) e = absurd (eqb-false (number_of row) 0 (numbered_from_1 row) e)
+
+pub none_lost_by_number : NoneLostByNumber
+none_lost_by_number fs e = none_lost fs (no_number (refused fs) e)
+
+pub nothing_written : NothingWritten
+nothing_written row xs out = (refl, refl)

@@ -1,24 +1,12 @@
 -- The refusal table of document 01, and the order of its rows in every call.
-use Rattle.std.specs.Prelude.{ℕ, Bool, false, cond, not, ◌||◌, List, [], ◌∷◌, ◌++◌, eqb, ltb}
+use Rattle.std.specs.Prelude.{ℕ, Bool, false, cond, not, ◌||◌, Option, Some, None, List, [], ◌∷◌, ◌++◌, eqb, ltb}
+use Rattle.refusals.specs.declared.Refusal.{Refusal}
+use Rattle.refusals.specs.declared.Refusal.TheVariants.{Broken, NoThresholds, TooManyThresholds, XyAboveTotal, YxAboveXy, TooLong, Ragged, TooManyReads, PartOutside, BelowLength, OutputTooShort, NoMi, NoStrand}
 
--- A row of the table. The type has no others, so that a condition cannot have a row which the order leaves out.
-pub data Row : Type 0 where
-  Broken : Row
-  NoThresholds : Row
-  TooManyThresholds : Row
-  XyAboveTotal : Row
-  YxAboveXy : Row
-  TooLong : Row
-  Ragged : Row
-  TooManyReads : Row
-  PartOutside : Row
-  BelowLength : Row
-  OutputTooShort : Row
-  NoMi : Row
-  NoStrand : Row
-
+-- A row of the table is a value of the enum of src/lib.rt. It has no others, so that a condition cannot have a row which the order
+-- leaves out.
 -- The number that a row answers.
-abbrev pub number_of : Row → ℕ
+abbrev pub number_of : Refusal → ℕ
 number_of Broken = 13
 number_of NoThresholds = 1
 number_of TooManyThresholds = 2
@@ -35,21 +23,21 @@ number_of NoStrand = 6
 
 -- Which row it is, as a number: the one that it answers. A row that answers a number at a second place of the order needs another
 -- one here.
-abbrev pub code : Row → ℕ
+abbrev pub code : Refusal → ℕ
 code row = number_of row
 
 -- A row's condition at a call: the row, and whether the arguments meet it.
 pub record Fault : Type 0 where
-  pub row : Row
+  pub row : Refusal
   pub met : Bool
 
 infix 20 ◌if◌
-abbrev pub ◌if◌ : Row → Bool → Fault
+abbrev pub ◌if◌ : Refusal → Bool → Fault
 ◌if◌ row met = record { row = row; met = met }
 
 -- The rows in the order in which a call tests them, as far as they apply: the tray and the thresholds before all others, the
--- partition's own last. A new row is a line of the type, one of its number, and one here.
-abbrev pub order : List Row
+-- partition's own last. A new row is a line of the enum, one of its number, and one here.
+abbrev pub order : List Refusal
 order =
     Broken  -- a broken tray
     ∷ NoThresholds  -- no thresholds
@@ -94,23 +82,24 @@ abbrev pub of_code : ℕ → List Fault → List Fault
 of_code n [] = []
 of_code n (f ∷ fs) = cond (eqb (code f.row) n) (f ∷ of_code n fs) (of_code n fs)
 
-abbrev pub of_row : Row → List Fault → List Fault
+abbrev pub of_row : Refusal → List Fault → List Fault
 of_row row fs = of_code (code row) fs
 
 -- The faults by the given order of rows.
-abbrev pub sorted : List Row → List Fault → List Fault
+abbrev pub sorted : List Refusal → List Fault → List Fault
 sorted [] fs = []
 sorted (row ∷ rows) fs = of_row row fs ++ sorted rows fs
 
--- The number of the first fault that is met, 0 where none is.
-abbrev pub first : List Fault → ℕ
-first [] = 0
-first (f ∷ fs) = cond f.met (number_of f.row) (first fs)
+-- The row of the first fault that is met.
+abbrev pub first : List Fault → Option Refusal
+first [] = None
+first (f ∷ fs) = cond f.met (Some f.row) (first fs)
 
--- What a call with these faults answers: the number of the refusal, 0 where it is not refused.
-unfoldable pub refusal : List Fault → ℕ
-refusal fs = first (sorted order fs)
+-- The refusal of a call with these faults, if it is refused.
+abbrev pub refused : List Fault → Option Refusal
+refused fs = first (sorted order fs)
 
--- The number after one more test: the one so far, or the row's where none was refused yet and the row's condition is met.
-unfoldable pub refuse_if : ℕ → Bool → ℕ → ℕ
-refuse_if so_far met number = cond (eqb so_far 0) (cond met number 0) so_far
+-- A refusal as the number that C sees: 0 where a call is not refused.
+abbrev pub number_or_0 : Option Refusal → ℕ
+number_or_0 None = 0
+number_or_0 (Some row) = number_of row

@@ -4,7 +4,7 @@ use Prim.Native.Nat.{◌+◌}
 use native.Mathlib.Omega.{arith}
 use borrow.Author.Tests.{lt-ltb}
 use Rattle.lists.specs.Part.{leaves}
-use Rattle.lists.proofs.Part.{leaves_by_rest}
+use Rattle.lists.proofs.Parts.{leaves_by_rest}
 use Rattle.lists.proofs.part_leaves.Goals as goal
 
 pub returns-then-size-offset : goal.returns-then-size-offset

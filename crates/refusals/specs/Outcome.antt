@@ -1,0 +1,19 @@
+-- What a call answers, and what it leaves in a lent output, by its refusal.
+use Rattle.std.specs.Prelude.{Bool, cond, Option, Some, None, Result, Ok, Err, List}
+use Rattle.lists.specs.Output.{put}
+use Rattle.refusals.specs.declared.Refusal.{Refusal}
+
+module _ {A : Type 0} where
+  -- The answer of a call: its refusal, or x.
+  abbrev pub answer : Option Refusal → A → Result A Refusal
+  answer None x = Ok x
+  answer (Some row) x = Err row
+
+  -- A lent output after a call that would write xs. A refusal writes nothing.
+  abbrev pub after : Option Refusal → List A → List A → List A
+  after None xs out = put xs out
+  after (Some row) xs out = out
+
+-- One test of a call.
+abbrev pub refused_if : Bool → Refusal → Result (Unit {0}) Refusal
+refused_if met row = cond met (Err row) (Ok tt)
