@@ -10,19 +10,15 @@ pub const NO_CALL_BASE: u8 = b'N';
 pub const NO_CALL_BASE_LOWER: u8 = b'n';
 
 // A letter a to z as its capital; any other byte as it is.
+#[tactic(auto, unfolding(crate::specs::Dna::upper))]
 pub fn to_ascii_uppercase(base: u8) -> u8
     ensures { result ≡ upper base }
 {
-    if base < b'a' {
-        base
-    } else if b'z' < base {
-        base
-    } else {
-        base - 32
-    }
+    base.to_ascii_uppercase()
 }
 
 // Whether two bytes are the same letter, or the same byte.
+#[tactic(auto, unfolding(crate::specs::Dna::same_letter))]
 pub fn eq_ignore_ascii_case(a: u8, b: u8) -> bool
     ensures { result ≡ same_letter a b }
 {

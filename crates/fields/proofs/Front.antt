@@ -3,6 +3,7 @@
 --     no_field, no-whole-field, a_field     what `next_field` then is
 -- Assumes nothing.
 use mathlib.Core.Path.{◌≡◌, refl, ◌∙◌}
+use Rattle.std.proofs.Common.{Some, None, Ok, Err}
 use mathlib.Core.Bool.{cond}
 use mathlib.Core.List.{List, [], ◌∷◌}
 use Prim.Native.Nat.{ℕ, suc, ◌+◌, ◌-◌, ◌≤◌, ◌<◌}
@@ -15,7 +16,7 @@ use lib.ListN.{length, take, drop, get_or, length-drop, drop_of_length-le}
 use lib.Seq.{drop-cons, length-take-le}
 use Rattle.byte_numbers.specs.Bytes.{word}
 use Rattle.fields.specs.Encoding.{field, cut, whole, front, next_field}
-use Rattle.fields.specs.declared.NextField.TheVariants.{End, Cut, Whole}
+use Rattle.refusals.specs.declared.Refusal.TheVariants.{Broken}
 
 front_short : (xs : List ℕ) → 0 < length xs → length xs < 3 → front xs ≡ cut
 unfolding front
@@ -42,21 +43,21 @@ module _ (bytes : List ℕ) (at : ℕ) where
   unfolding front
   front_at h = rw (opened h)
 
-  pub no_field : length bytes ≤ at → End ≡ next_field bytes at
+  pub no_field : length bytes ≤ at → next_field bytes at ≡ Ok None
   unfolding next_field front
   no_field h = rw (drop_of_length-le bytes h)
 
-  pub no_whole_header : at < length bytes → length bytes - at < 3 → Cut ≡ next_field bytes at
+  pub no_whole_header : at < length bytes → length bytes - at < 3 → next_field bytes at ≡ Err Broken
   unfolding next_field
   no_whole_header more few = rw (front_short (drop at bytes) (simp length-drop (omega arith)) (simp length-drop (omega arith)))
 
-  pub no_whole_value : at + 3 ≤ length bytes → length bytes - (at + 3) < said → Cut ≡ next_field bytes at
+  pub no_whole_value : at + 3 ≤ length bytes → length bytes - (at + 3) < said → next_field bytes at ≡ Err Broken
   unfolding next_field
   no_whole_value h few =
       let short : length (drop (at + 3) bytes) < said = simp length-drop few in
       rw (front_at h, lt-ltb _ _ short)
 
-  pub a_field : at + 3 ≤ length bytes → said ≤ length bytes - (at + 3) → Whole (record { tag = get_or bytes at 0; offset = at + 3; length = said }) ≡ next_field bytes at
+  pub a_field : at + 3 ≤ length bytes → said ≤ length bytes - (at + 3) → next_field bytes at ≡ Ok (Some (record { tag = get_or bytes at 0; offset = at + 3; length = said }))
   unfolding next_field
   a_field h enough =
       let long : said ≤ length (drop (at + 3) bytes) = simp length-drop enough in

@@ -1,9 +1,11 @@
 -- A walk over the fields of a buffer, from one `next_field` to the next: what its answer at a place says of the fields from there on.
 --     at_end, at_cut     there are none (none_at_end, none_at_cut), and nothing or a cut field is left
+--     cut_is_broken      a cut field is refused by 13
 --     at_whole           a field, and the fields from its end on
 --     along              induction along a walk
 -- Assumes nothing.
 use mathlib.Core.Path.{◌≡◌, refl, sym, ap, ◌∙◌}
+use Rattle.std.proofs.Common.{Option, Some, None, Result, Ok, Err}
 use mathlib.Core.Bool.{false, true}
 use mathlib.Core.List.{List, [], ◌∷◌, ◌++◌}
 use Prim.Native.Nat.{ℕ, zero, suc, ◌+◌, ◌-◌, ◌≤◌, ◌<◌}
@@ -15,8 +17,8 @@ use lib.Seq.{take-append_seam, drop-append_seam, drop-drop}
 use Rattle.lists.specs.Part.{leaves, part}
 use Rattle.fields.specs.Encoding.{Field, Front, nothing, cut, whole, front, located, Fields, fields, fields_of, whole_fields, cut_field, next_field, field_at}
 use Rattle.fields.specs.declared.FieldAt.{FieldAt}
-use Rattle.fields.specs.declared.NextField.{NextField}
-use Rattle.fields.specs.declared.NextField.TheVariants.{End, Cut, Whole}
+use Rattle.refusals.specs.declared.Refusal.{Refusal}
+use Rattle.refusals.specs.declared.Refusal.TheVariants.{Broken}
 use Rattle.fields.proofs.Fields.{Begins, begins, fields_none, fields_cut, fields_whole}
 
 -- A field f of some bytes begins at a place.
@@ -44,10 +46,10 @@ module _ (bytes : List ℕ) (at : ℕ) {g : Field} {rest : List ℕ} (b : Begins
 
 module _ (bytes : List ℕ) (at : ℕ) where
   -- What is known of the fields from a place on, by what begins there.
-  abbrev Told : NextField → Type 0
-  Told End = fields_of (drop at bytes) ≡ fields [] false
-  Told Cut = fields_of (drop at bytes) ≡ fields [] true
-  Told (Whole f) = BeginsAt bytes at f
+  abbrev Told : Result (Option FieldAt) Refusal → Type 0
+  Told (Ok None) = fields_of (drop at bytes) ≡ fields [] false
+  Told (Ok (Some f)) = BeginsAt bytes at f
+  Told (Err refusal) = (fields_of (drop at bytes) ≡ fields [] true) × (refusal ≡ Broken)
 
   told : Told (next_field bytes at)
   unfolding next_field
@@ -55,7 +57,7 @@ module _ (bytes : List ℕ) (at : ℕ) where
     where
       go : (b : Front) → front (drop at bytes) ≡ b → Told (located at b)
       go nothing b = fields_none (drop at bytes) b
-      go cut b = fields_cut (drop at bytes) b
+      go cut b = (fields_cut (drop at bytes) b, refl)
       go (whole g rest) b =
           let here = begins (drop at bytes) b in
           record {
@@ -65,20 +67,23 @@ module _ (bytes : List ℕ) (at : ℕ) where
             fields_are = rw (value_is bytes at here, rest_is bytes at here) (fields_whole (drop at bytes) b);
           }
 
-  pub at_end : next_field bytes at ≡ End → fields_of (drop at bytes) ≡ fields [] false
+  pub at_end : next_field bytes at ≡ Ok None → fields_of (drop at bytes) ≡ fields [] false
   at_end e = rw e at told
 
-  pub at_cut : next_field bytes at ≡ Cut → fields_of (drop at bytes) ≡ fields [] true
-  at_cut e = rw e at told
+  pub at_cut : {refusal : Refusal} → next_field bytes at ≡ Err refusal → fields_of (drop at bytes) ≡ fields [] true
+  at_cut e = (rw e at told).0
+
+  pub cut_is_broken : {refusal : Refusal} → next_field bytes at ≡ Err refusal → refusal ≡ Broken
+  cut_is_broken e = (rw e at told).1
 
   -- Either way there are none.
-  pub none_at_end : next_field bytes at ≡ End → whole_fields (drop at bytes) ≡ []
+  pub none_at_end : next_field bytes at ≡ Ok None → whole_fields (drop at bytes) ≡ []
   none_at_end e = ap (λ (x : Fields). x.whole_ones) (at_end e)
 
-  pub none_at_cut : next_field bytes at ≡ Cut → whole_fields (drop at bytes) ≡ []
+  pub none_at_cut : {refusal : Refusal} → next_field bytes at ≡ Err refusal → whole_fields (drop at bytes) ≡ []
   none_at_cut e = ap (λ (x : Fields). x.whole_ones) (at_cut e)
 
-  pub at_whole : {f : FieldAt} → next_field bytes at ≡ Whole f → BeginsAt bytes at f
+  pub at_whole : {f : FieldAt} → next_field bytes at ≡ Ok (Some f) → BeginsAt bytes at f
   at_whole e = rw e at told
 
 -- What holds where no field is left, and at each field where it holds at the field's end, holds at every place.
@@ -91,10 +96,10 @@ module _
     along_within zero at h = absurd (not-suc-le-zero h)
     along_within (suc most) at h = go (next_field bytes at) refl (λ next nearer. along_within most next (omega arith))
       where
-        go : (r : NextField) → next_field bytes at ≡ r → ((next : ℕ) → length bytes - next < length bytes - at → Q next) → Q at
-        go End e later = none at (none_at_end bytes at e)
-        go Cut e later = none at (none_at_cut bytes at e)
-        go (Whole f) e later =
+        go : (r : Result (Option FieldAt) Refusal) → next_field bytes at ≡ r → ((next : ℕ) → length bytes - next < length bytes - at → Q next) → Q at
+        go (Ok None) e later = none at (none_at_end bytes at e)
+        go (Err refusal) e later = none at (none_at_cut bytes at e)
+        go (Ok (Some f)) e later =
             let b = at_whole bytes at e in
             more at f b (later (f.offset + f.length) (omega (arith, b.header, b.within)))
 

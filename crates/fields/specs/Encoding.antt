@@ -1,10 +1,10 @@
 -- The tag-length-value encoding of document 01's tray: what bytes stand for a field, for some fields one after another, and what fields some bytes have.
-use Rattle.std.specs.Prelude.{ℕ, zero, suc, ◌+◌, ◌/◌, ◌%◌, ◌<◌, ◌≡◌, Bool, true, false, cond, List, [], ◌∷◌, ◌++◌, ltb, length, take, drop, get_or}
+use Rattle.std.specs.Prelude.{ℕ, zero, suc, ◌+◌, ◌/◌, ◌%◌, ◌<◌, ◌≡◌, Bool, true, false, cond, Option, Some, None, Result, Ok, Err, List, [], ◌∷◌, ◌++◌, ltb, length, take, drop, get_or}
 use Rattle.lists.specs.Part.{part}
 use Rattle.byte_numbers.specs.Bytes.{word}
 use Rattle.fields.specs.declared.FieldAt.{FieldAt}
-use Rattle.fields.specs.declared.NextField.{NextField}
-use Rattle.fields.specs.declared.NextField.TheVariants.{End, Cut, Whole}
+use Rattle.refusals.specs.declared.Refusal.{Refusal}
+use Rattle.refusals.specs.declared.Refusal.TheVariants.{Broken}
 
 pub record Field : Type 0 where
   pub tag : ℕ
@@ -83,12 +83,12 @@ abbrev pub cut_field : List ℕ → Bool
 cut_field bytes = (fields_of bytes).cut_one
 
 -- What begins at a place of a buffer, by what the bytes from there on begin with.
-abbrev pub located : ℕ → Front → NextField
-located at nothing = End
-located at cut = Cut
-located at (whole f rest) = Whole (record { tag = f.tag; offset = at + 3; length = length f.value })
+abbrev pub located : ℕ → Front → Result (Option FieldAt) Refusal
+located at nothing = Ok None
+located at cut = Err Broken
+located at (whole f rest) = Ok (Some (record { tag = f.tag; offset = at + 3; length = length f.value }))
 
-unfoldable pub next_field : List ℕ → ℕ → NextField
+unfoldable pub next_field : List ℕ → ℕ → Result (Option FieldAt) Refusal
 next_field bytes at = located at (front (drop at bytes))
 
 -- What a field of a buffer is.

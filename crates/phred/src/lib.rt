@@ -9,14 +9,9 @@ pub const MIN_PHRED: u8 = 2;
 pub const MAX_PHRED: u8 = 93;
 
 // A sum or difference of qualities, held to MIN_PHRED..MAX_PHRED.
+#[tactic(auto, unfolding(crate::specs::Phred::capped_quality))]
 pub fn cap_quality(score: u16) -> u8
     ensures { result ≡ capped_quality score }
 {
-    if score < MIN_PHRED as u16 {
-        MIN_PHRED
-    } else if (MAX_PHRED as u16) < score {
-        MAX_PHRED
-    } else {
-        score as u8
-    }
+    score.clamp(u16::from(MIN_PHRED), u16::from(MAX_PHRED)) as u8
 }
