@@ -1,2 +1,1 @@
 pub mod Name
-pub mod Short

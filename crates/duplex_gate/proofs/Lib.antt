@@ -1,3 +1,3 @@
 pub mod Cut
 pub mod Examples
-pub mod Within
+pub mod Gate

@@ -1,14 +1,15 @@
 -- The consensus gate, document 01.
-use Rattle.std.specs.Prelude.{ℕ, List, [], ◌∷◌, length, take}
+use Rattle.std.specs.Prelude.{ℕ, Bool, Result, List, [], ◌∷◌, length, take}
 use Rattle.numbers.specs.Numbers.{largest}
-use Rattle.refusals.specs.Refusal.{◌if◌, too_long, TooLong}
+use Rattle.refusals.specs.declared.Refusal.{Refusal}
+use Rattle.refusals.specs.declared.Refusal.TheVariants.{TooLong}
+use Rattle.refusals.specs.Refusal.{◌if◌, too_long}
 use Rattle.duplex_reads.specs.Reads.{gate}
-use Rattle.duplex_reads.specs.declared.Gate.{Gate}
 
 -- The largest depth within n positions, uncapped. It takes the place of the read count; an absent strand has no depths and counts 0.
-unfoldable pub largest_within : ℕ → List ℕ → ℕ
+abbrev pub largest_within : ℕ → List ℕ → ℕ
 largest_within n depths = largest (take n depths)
 
 -- A record of n positions, the depths of its strands, and the thresholds.
-unfoldable pub consensus_gate : ℕ → List ℕ → List ℕ → List ℕ → Gate
+abbrev pub consensus_gate : ℕ → List ℕ → List ℕ → List ℕ → Result Bool Refusal
 consensus_gate n ab ba ts = gate ts ((TooLong if too_long (n ∷ length ab ∷ length ba ∷ [])) ∷ []) (largest_within n ab) (largest_within n ba)

@@ -1,14 +1,10 @@
 -- Thresholds, document 01: at least total reads of a molecule, XY of the better covered strand, YX of the other.
-use Rattle.std.specs.Prelude.{ℕ, ◌+◌, min, max, Bool, cond, ◌&&◌, List, [], ◌∷◌, eqb, leb, ltb, length, get_or}
-use Rattle.lists.specs.Output.{answer}
-use Rattle.refusals.specs.Refusal.{Fault, ◌if◌, refusal, NoThresholds, TooManyThresholds, XyAboveTotal, YxAboveXy}
+use Rattle.std.specs.Prelude.{ℕ, ◌+◌, min, max, Bool, ◌&&◌, Option, Result, List, [], ◌∷◌, eqb, leb, ltb, length, get_or}
+use Rattle.refusals.specs.declared.Refusal.{Refusal}
+use Rattle.refusals.specs.declared.Refusal.TheVariants.{NoThresholds, TooManyThresholds, XyAboveTotal, YxAboveXy}
+use Rattle.refusals.specs.Refusal.{Fault, ◌if◌, refused as refused_by}
+use Rattle.refusals.specs.Outcome.{answer}
 use Rattle.duplex_min_reads.specs.declared.MinReads.{MinReads}
-use Rattle.duplex_min_reads.specs.declared.Validated.{Validated}
-use Rattle.duplex_min_reads.specs.declared.Validated.TheVariants.{Refused, Thresholds}
-use Rattle.duplex_min_reads.specs.declared.YxReads.{YxReads}
-use Rattle.duplex_min_reads.specs.declared.YxReads.TheVariants.{Refused as Refused-yx, AtLeast}
-use Rattle.duplex_min_reads.specs.declared.SingleStrand.{SingleStrand}
-use Rattle.duplex_min_reads.specs.declared.SingleStrand.TheVariants.{Refused as Refused-single, Allowed, NotAllowed}
 
 -- Missing values repeat the last.
 abbrev pub total : List ℕ → ℕ
@@ -23,7 +19,7 @@ yx ts = get_or ts 2 (xy ts)
 abbrev pub min_reads : List ℕ → MinReads
 min_reads ts = record { total = total ts; xy = xy ts; yx = yx ts }
 
-unfoldable pub faults : List ℕ → List Fault
+abbrev pub faults : List ℕ → List Fault
 faults ts =
     (NoThresholds if eqb (length ts) 0)
     ∷ (TooManyThresholds if ltb 3 (length ts))
@@ -31,20 +27,20 @@ faults ts =
     ∷ (YxAboveXy if ltb (xy ts) (yx ts))
     ∷ []
 
--- The number of the refusal, 0 for none.
-abbrev pub refused : List ℕ → ℕ
-refused ts = refusal (faults ts)
+-- The refusal, if any.
+abbrev pub refused : List ℕ → Option Refusal
+refused ts = refused_by (faults ts)
 
-unfoldable pub validated : List ℕ → Validated
-validated ts = answer Refused (refused ts) (Thresholds (min_reads ts))
+abbrev pub validated : List ℕ → Result MinReads Refusal
+validated ts = answer (refused ts) (min_reads ts)
 
-unfoldable pub min_yx_reads : List ℕ → YxReads
-min_yx_reads ts = answer Refused-yx (refused ts) (AtLeast (yx ts))
+abbrev pub min_yx_reads : List ℕ → Result ℕ Refusal
+min_yx_reads ts = answer (refused ts) (yx ts)
 
 -- A single strand is allowed exactly when YX is 0.
-unfoldable pub single_strand : List ℕ → SingleStrand
-single_strand ts = answer Refused-single (refused ts) (cond (eqb (yx ts) 0) Allowed NotAllowed)
+abbrev pub single_strand : List ℕ → Result Bool Refusal
+single_strand ts = answer (refused ts) (eqb (yx ts) 0)
 
 -- Two strands' counts reach the thresholds. XY is the larger, YX the smaller.
-unfoldable pub reaches_all : MinReads → ℕ → ℕ → Bool
+abbrev pub reaches_all : MinReads → ℕ → ℕ → Bool
 reaches_all t a b = leb t.total (a + b) && (leb t.xy (max a b) && leb t.yx (min a b))

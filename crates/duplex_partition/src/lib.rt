@@ -3,37 +3,42 @@
 
 ghost use Rattle.std.specs.Prelude.{◌≡◌, ◌≤◌, length};
 ghost use Rattle.lists.specs.Output.{put};
-ghost use Rattle.refusals.specs.Refusal.{refusal};
-ghost use Rattle.duplex_partition.specs.Partition.{strand_of, read_strand, offence, first_offence, mi_leaves, any_mi_leaves, partition_faults, on_a, on_b, base_mi, PartitionedAs};
+ghost use Rattle.refusals.specs.Outcome.{answer};
+ghost use Rattle.duplex_partition.specs.Partition.{strand_of, read_strand, offence, first_offence, mi_leaves, any_mi_leaves, on_a, on_b, base_mi, PartitionedAs};
 
-use lists::{part_leaves, part_u8};
-use refusals::{
-    MAX_READS, NO_MI, NO_STRAND, OUTPUT_TOO_SHORT, PART_OUTSIDE, TOO_MANY_READS, refuse_if,
-};
+use lists::{part, part_leaves};
+use refusals::{MAX_READS, Refusal, refuse};
 
-// A read's MI, or none: whether there is one (0: no), and its offset and length in a byte buffer.
-pub type MiPart = [usize; 3];
+// A read's MI as a part of a byte buffer, or none.
+#[repr(C)]
+#[derive(Clone, Copy)]
+pub struct MiPart {
+    // Whether there is one (0: no).
+    pub present: usize,
+    pub offset: usize,
+    pub length: usize,
+}
 
 // The strand that an MI names by its last two bytes.
-#[derive(Clone, Copy)]
+#[derive(Clone, Copy, Debug, PartialEq, Eq)]
 pub enum MiStrand {
     A,
     B,
-    Unnamed,
 }
 
-// The first read's MI without its last two bytes, as a part of the caller's bytes. No reads have none.
+// The first read's MI without its last two bytes, as a part of the caller's bytes.
 #[derive(Clone, Copy)]
-pub enum BaseMi {
-    Absent,
-    Part { offset: usize, length: usize },
+pub struct BaseMi {
+    pub offset: usize,
+    pub length: usize,
 }
 
+// So many read numbers are written to the list of A and to that of B. No reads have no base MI.
 #[derive(Clone, Copy)]
-pub enum Partition {
-    Refused(u8),
-    // So many read numbers are written to the list of A and to that of B.
-    Partitioned { a: usize, b: usize, base_mi: BaseMi },
+pub struct Partition {
+    pub a: usize,
+    pub b: usize,
+    pub base_mi: Option<BaseMi>,
 }
 
 #[derive(Clone, Copy)]
@@ -42,84 +47,55 @@ struct Counts {
     b: usize,
 }
 
-pub fn extract_strand_from_mi_bytes(mi_bytes: &[u8]) -> MiStrand
+// The strand that an MI ending in /A or /B names. Any other names none.
+pub fn extract_strand_from_mi_bytes(mi_bytes: &[u8]) -> Option<MiStrand>
     ensures { result ≡ strand_of mi_bytes.now }
 {
-    let n = mi_bytes.len();
-    if n < 2 {
-        return MiStrand::Unnamed;
+    match mi_bytes {
+        [.., b'/', b'A'] => Some(MiStrand::A),
+        [.., b'/', b'B'] => Some(MiStrand::B),
+        _ => None,
     }
-    if mi_bytes[n - 2] != b'/' {
-        return MiStrand::Unnamed;
-    }
-    let letter = mi_bytes[n - 1];
-    if letter == b'A' {
-        return MiStrand::A;
-    }
-    if letter == b'B' {
-        return MiStrand::B;
-    }
-    MiStrand::Unnamed
 }
 
-fn read_strand(bytes: &[u8], read: MiPart) -> MiStrand
+fn read_strand(bytes: &[u8], read: MiPart) -> Option<MiStrand>
     ensures { result ≡ read_strand bytes.now read }
 {
-    extract_strand_from_mi_bytes(part_u8(bytes, read[1], read[2]))
+    extract_strand_from_mi_bytes(part(bytes, read.offset, read.length))
 }
 
-// The row that a read meets, 0 for none.
-fn read_offence(bytes: &[u8], read: MiPart) -> u8
-    ensures { result ≡ offence bytes.now read }
+// Refuses a read by 5 without an MI, and by 6 where it names no strand.
+fn read_offence(bytes: &[u8], read: MiPart) -> Result<(), Refusal>
+    ensures { result ≡ answer (offence bytes.now read) tt }
 {
-    if read[0] == 0 {
-        return NO_MI;
-    }
-    match read_strand(bytes, read) {
-        MiStrand::A => 0,
-        MiStrand::B => 0,
-        MiStrand::Unnamed => NO_STRAND,
-    }
+    refuse(read.present == 0, Refusal::NoMi)?;
+    refuse(read_strand(bytes, read).is_none(), Refusal::NoStrand)
 }
 
-fn first_offence(bytes: &[u8], reads: &[MiPart]) -> u8
-    ensures { result ≡ first_offence bytes.now reads.now }
+// Refuses by the first read at fault.
+fn first_offence(bytes: &[u8], reads: &[MiPart]) -> Result<(), Refusal>
+    ensures { result ≡ answer (first_offence bytes.now reads.now) tt }
 {
-    let mut found = 0;
-    let mut i = 0;
-    while i < reads.len() {
-        found = refuse_if(found, true, read_offence(bytes, reads[i]));
-        i += 1;
+    for &read in reads {
+        read_offence(bytes, read)?;
     }
-    found
+    Ok(())
 }
 
 fn read_leaves(size: usize, read: MiPart) -> bool
     ensures { result ≡ mi_leaves size read }
 {
-    (read[0] != 0) & part_leaves(read[1], read[2], size)
+    (read.present != 0) & part_leaves(read.offset, read.length, size)
 }
 
 fn any_leaves(size: usize, reads: &[MiPart]) -> bool
     ensures { result ≡ any_mi_leaves size reads.now }
 {
     let mut met = false;
-    let mut i = 0;
-    while i < reads.len() {
-        met = met | read_leaves(size, reads[i]);
-        i += 1;
+    for &read in reads {
+        met |= read_leaves(size, read);
     }
     met
-}
-
-fn partition_refusal(n: usize, leaving: bool, a: usize, b: usize, found: u8) -> u8
-    ensures { result ≡ refusal (partition_faults n leaving a b found) }
-{
-    let number = refuse_if(0, MAX_READS < n, TOO_MANY_READS);
-    let number = refuse_if(number, leaving, PART_OUTSIDE);
-    let number = refuse_if(number, (a < n) | (b < n), OUTPUT_TOO_SHORT);
-    let number = refuse_if(number, found == NO_MI, NO_MI);
-    refuse_if(number, found == NO_STRAND, NO_STRAND)
 }
 
 fn write_partition(bytes: &[u8], reads: &[MiPart], a_out: &mut [u16], b_out: &mut [u16]) -> Counts
@@ -131,42 +107,30 @@ fn write_partition(bytes: &[u8], reads: &[MiPart], a_out: &mut [u16], b_out: &mu
 {
     let mut a = 0;
     let mut b = 0;
-    let mut i = 0;
-    while i < reads.len() {
+    for i in 0..reads.len() {
         match read_strand(bytes, reads[i]) {
-            MiStrand::A => {
+            Some(MiStrand::A) => {
                 a_out[a] = i as u16;
                 a += 1;
             }
-            MiStrand::B => {
+            Some(MiStrand::B) => {
                 b_out[b] = i as u16;
                 b += 1;
             }
-            MiStrand::Unnamed => {}
+            None => {}
         }
-        i += 1;
     }
     Counts { a, b }
 }
 
-fn base_mi(reads: &[MiPart]) -> BaseMi
+fn base_mi(reads: &[MiPart]) -> Option<BaseMi>
     ensures { result ≡ base_mi reads.now }
 {
-    if reads.len() == 0 {
-        return BaseMi::Absent;
-    }
-    let first = reads[0];
-    let size = first[2];
-    if size < 2 {
-        return BaseMi::Part {
-            offset: first[1],
-            length: 0,
-        };
-    }
-    BaseMi::Part {
-        offset: first[1],
-        length: size - 2,
-    }
+    let first = reads.first()?;
+    Some(BaseMi {
+        offset: first.offset,
+        length: first.length.saturating_sub(2),
+    })
 }
 
 // The numbers of the reads of strand A and of B, each in arrival order. Refuses by 9, 10, 12, then 5 or 6 by the first read
@@ -176,23 +140,21 @@ pub fn partition_records_by_strand(
     bytes: &[u8],
     a_out: &mut [u16],
     b_out: &mut [u16],
-) -> Partition
+) -> Result<Partition, Refusal>
     ensures { PartitionedAs reads.now bytes.now a_out.old b_out.old a_out.new b_out.new result }
 {
-    let number = partition_refusal(
-        reads.len(),
-        any_leaves(bytes.len(), reads),
-        a_out.len(),
-        b_out.len(),
-        first_offence(bytes, reads),
-    );
-    if number != 0 {
-        return Partition::Refused(number);
-    }
+    let n = reads.len();
+    refuse(MAX_READS < n, Refusal::TooManyReads)?;
+    refuse(any_leaves(bytes.len(), reads), Refusal::PartOutside)?;
+    refuse(
+        (a_out.len() < n) | (b_out.len() < n),
+        Refusal::OutputTooShort,
+    )?;
+    first_offence(bytes, reads)?;
     let counts = write_partition(bytes, reads, a_out, b_out);
-    Partition::Partitioned {
+    Ok(Partition {
         a: counts.a,
         b: counts.b,
         base_mi: base_mi(reads),
-    }
+    })
 }

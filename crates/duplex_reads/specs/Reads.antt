@@ -1,18 +1,14 @@
 -- What a read's flags say, and the read gate, document 01.
-use Rattle.std.specs.Prelude.{ℕ, ◌+◌, Bool, true, cond, ◌&&◌, length, get_or}
+use Rattle.std.specs.Prelude.{ℕ, ◌+◌, Bool, true, ◌&&◌, Option, Result, List, [], ◌∷◌, ◌++◌, length, get_or, count_by, fold}
 use Rattle.std.specs.Bool.{beq}
-use mathlib.Core.List.{List, [], ◌∷◌, ◌++◌, foldl}
-use Rattle.lists.specs.Count.{count_of}
-use Rattle.lists.specs.Output.{answer}
-use Rattle.refusals.specs.Refusal.{Fault, ◌if◌, too_many, refusal, TooManyReads}
+use Rattle.refusals.specs.declared.Refusal.{Refusal}
+use Rattle.refusals.specs.declared.Refusal.TheVariants.{TooManyReads}
+use Rattle.refusals.specs.Refusal.{Fault, ◌if◌, too_many, refused as refused_by}
+use Rattle.refusals.specs.Outcome.{answer}
 use Rattle.flags.specs.Flags.{paired, unmapped, mate_unmapped, reverse, first_segment, last_segment, is_set}
-use Rattle.duplex_min_reads.specs.MinReads.{faults, min_reads, refused, reaches_all}
-use Rattle.duplex_reads.specs.declared.Gate.{Gate}
-use Rattle.duplex_reads.specs.declared.Gate.TheVariants.{Refused, Kept, Below}
+use Rattle.duplex_min_reads.specs.MinReads.{faults, min_reads, reaches_all}
 use Rattle.duplex_reads.specs.declared.ReadType.{ReadType}
 use Rattle.duplex_reads.specs.declared.ReadType.TheVariants.{Fragment, R1, R2}
-use Rattle.duplex_reads.specs.declared.SameStrand.{SameStrand}
-use Rattle.duplex_reads.specs.declared.SameStrand.TheVariants.{Refused as Refused-same, Same, Mixed}
 
 abbrev pub is_paired : ℕ → Bool
 is_paired flags = is_set flags paired
@@ -31,18 +27,14 @@ written_flags R2 = paired + unmapped + mate_unmapped + last_segment
 
 -- The number of paired first reads.
 abbrev pub count_r1 : List ℕ → ℕ
-count_r1 reads = count_of is_paired_r1 reads
+count_r1 reads = count_by is_paired_r1 reads
 
--- A gate's answer: refused by the thresholds, then by the faults of what is counted, or by the two strands' counts.
-unfoldable pub gate : List ℕ → List Fault → ℕ → ℕ → Gate
-gate ts own a b = answer Refused (refusal (faults ts ++ own)) (cond (reaches_all (min_reads ts) a b) Kept Below)
-
--- The same where the number of the own faults' refusal is known.
-unfoldable pub gate_answer : List ℕ → ℕ → ℕ → ℕ → Gate
-gate_answer ts number a b = answer Refused (refused ts) (answer Refused number (cond (reaches_all (min_reads ts) a b) Kept Below))
+-- A gate's answer: refused by the thresholds, then by the faults of what is counted, or whether the two strands' counts are enough.
+abbrev pub gate : List ℕ → List Fault → ℕ → ℕ → Result Bool Refusal
+gate ts own a b = answer (refused_by (faults ts ++ own)) (reaches_all (min_reads ts) a b)
 
 -- The reads of A and of B, and the thresholds.
-unfoldable pub read_gate : List ℕ → List ℕ → List ℕ → Gate
+abbrev pub read_gate : List ℕ → List ℕ → List ℕ → Result Bool Refusal
 read_gate a b ts = gate ts ((TooManyReads if too_many (length a ∷ length b ∷ [])) ∷ []) (count_r1 a) (count_r1 b)
 
 abbrev pub is_reverse : ℕ → Bool
@@ -52,12 +44,12 @@ is_reverse flags = is_set flags reverse
 abbrev pub still_same : Bool → Bool → ℕ → Bool
 still_same r met flags = met && beq (is_reverse flags) r
 
-unfoldable pub all_reverse_as : Bool → List ℕ → Bool
-all_reverse_as r reads = foldl (still_same r) true reads
+abbrev pub all_reverse_as : Bool → List ℕ → Bool
+all_reverse_as r reads = fold (still_same r) true reads
 
-unfoldable pub strand_faults : ℕ → List Fault
-strand_faults n = (TooManyReads if too_many (n ∷ [])) ∷ []
+abbrev pub strand_refused : List ℕ → Option Refusal
+strand_refused reads = refused_by ((TooManyReads if too_many (length reads ∷ [])) ∷ [])
 
 -- All reads are oriented as the first is.
-unfoldable pub same_strand : List ℕ → SameStrand
-same_strand reads = answer Refused-same (refusal (strand_faults (length reads))) (cond (all_reverse_as (is_reverse (get_or reads 0 0)) reads) Same Mixed)
+abbrev pub same_strand : List ℕ → Result Bool Refusal
+same_strand reads = answer (strand_refused reads) (all_reverse_as (is_reverse (get_or reads 0 0)) reads)

@@ -1,15 +1,17 @@
 // Entry points over numbers: the calls of a molecule's reads, the gates and the partition, with answers as numbers. What a call
-// answers is the library's. Uses replies, duplex_reads, duplex_gate and duplex_partition.
+// answers is the library's. Uses refusals, replies, duplex_reads, duplex_gate and duplex_partition.
 #![tactic(auto)]
 
 ghost use Rattle.std.specs.Prelude.{◌≡◌};
+ghost use Rattle.replies.specs.Replies.{bit_reply};
 ghost use Rattle.duplex_reads.specs.Reads.{read_gate, same_strand};
 ghost use Rattle.duplex_gate.specs.ConsensusGate.{consensus_gate};
-ghost use Rattle.rust_reads.specs.Replies.{gate_reply, same_reply, partition_reply, PartitionRepliedAs};
+ghost use Rattle.rust_reads.specs.Replies.{partition_reply, PartitionRepliedAs};
 
 use duplex_gate::duplex_consensus_has_minimum_reads;
-use duplex_partition::{BaseMi, MiPart, Partition, partition_records_by_strand};
-use duplex_reads::{Gate, SameStrand, are_all_same_strand, has_minimum_number_of_reads};
+use duplex_partition::{MiPart, Partition, partition_records_by_strand};
+use duplex_reads::{are_all_same_strand, has_minimum_number_of_reads};
+use refusals::Refusal;
 use replies::Number;
 
 // `refused` is the refusal's number; where it is 0, so many read numbers are written to the list of A and to that of B, and base_mi
@@ -25,58 +27,32 @@ pub struct PartitionReply {
     pub length: usize,
 }
 
-fn gate_reply(answer: Gate) -> Number
-    ensures { result ≡ gate_reply answer }
-{
-    match answer {
-        Gate::Refused(number) => Number {
-            refused: number,
-            number: 0,
-        },
-        Gate::Kept => Number {
-            refused: 0,
-            number: 1,
-        },
-        Gate::Below => Number {
-            refused: 0,
-            number: 0,
-        },
-    }
-}
+impl From<Result<Partition, Refusal>> for PartitionReply {
+    ghost from_gives = { λ answer reply. reply ≡ partition_reply answer };
 
-fn same_reply(answer: SameStrand) -> Number
-    ensures { result ≡ same_reply answer }
-{
-    match answer {
-        SameStrand::Refused(number) => Number {
-            refused: number,
-            number: 0,
-        },
-        SameStrand::Same => Number {
-            refused: 0,
-            number: 1,
-        },
-        SameStrand::Mixed => Number {
-            refused: 0,
-            number: 0,
-        },
-    }
-}
-
-fn partition_reply(answer: Partition) -> PartitionReply
-    ensures { result ≡ partition_reply answer }
-{
-    match answer {
-        Partition::Refused(number) => PartitionReply {
-            refused: number,
-            base_mi: 0,
-            a: 0,
-            b: 0,
-            offset: 0,
-            length: 0,
-        },
-        Partition::Partitioned { a, b, base_mi } => match base_mi {
-            BaseMi::Absent => PartitionReply {
+    fn from(answer: Result<Partition, Refusal>) -> PartitionReply {
+        match answer {
+            Ok(
+                Partition {
+                    a,
+                    b,
+                    base_mi: Some(part),
+                },
+            ) => PartitionReply {
+                refused: 0,
+                base_mi: 1,
+                a,
+                b,
+                offset: part.offset,
+                length: part.length,
+            },
+            Ok(
+                Partition {
+                    a,
+                    b,
+                    base_mi: None,
+                },
+            ) => PartitionReply {
                 refused: 0,
                 base_mi: 0,
                 a,
@@ -84,15 +60,15 @@ fn partition_reply(answer: Partition) -> PartitionReply
                 offset: 0,
                 length: 0,
             },
-            BaseMi::Part { offset, length } => PartitionReply {
-                refused: 0,
-                base_mi: 1,
-                a,
-                b,
-                offset,
-                length,
+            Err(refusal) => PartitionReply {
+                refused: refusal.number(),
+                base_mi: 0,
+                a: 0,
+                b: 0,
+                offset: 0,
+                length: 0,
             },
-        },
+        }
     }
 }
 
@@ -103,9 +79,9 @@ pub extern "C" fn gedrashiw_has_minimum_number_of_reads(
     b_reads: &[u16],
     min_reads: &[u32],
 ) -> Number
-    ensures { result ≡ gate_reply (read_gate a_reads.now b_reads.now min_reads.now) }
+    ensures { result ≡ bit_reply (read_gate a_reads.now b_reads.now min_reads.now) }
 {
-    gate_reply(has_minimum_number_of_reads(a_reads, b_reads, min_reads))
+    Number::from(has_minimum_number_of_reads(a_reads, b_reads, min_reads))
 }
 
 // The consensus gate: 1 is kept, 0 below.
@@ -116,17 +92,17 @@ pub extern "C" fn gedrashiw_duplex_consensus_has_minimum_reads(
     ba_depths: &[u16],
     min_reads: &[u32],
 ) -> Number
-    ensures { result ≡ gate_reply (consensus_gate positions ab_depths.now ba_depths.now min_reads.now) }
+    ensures { result ≡ bit_reply (consensus_gate positions ab_depths.now ba_depths.now min_reads.now) }
 {
-    gate_reply(duplex_consensus_has_minimum_reads(positions, ab_depths, ba_depths, min_reads))
+    Number::from(duplex_consensus_has_minimum_reads(positions, ab_depths, ba_depths, min_reads))
 }
 
 // 1: all reads have one orientation; 0: they have not.
 #[unsafe(no_mangle)]
 pub extern "C" fn gedrashiw_are_all_same_strand(reads: &[u16]) -> Number
-    ensures { result ≡ same_reply (same_strand reads.now) }
+    ensures { result ≡ bit_reply (same_strand reads.now) }
 {
-    same_reply(are_all_same_strand(reads))
+    Number::from(are_all_same_strand(reads))
 }
 
 #[unsafe(no_mangle)]
@@ -138,5 +114,5 @@ pub extern "C" fn gedrashiw_partition_records_by_strand(
 ) -> PartitionReply
     ensures { PartitionRepliedAs reads.now bytes.now a_out.old b_out.old a_out.new b_out.new result }
 {
-    partition_reply(partition_records_by_strand(reads, bytes, a_out, b_out))
+    PartitionReply::from(partition_records_by_strand(reads, bytes, a_out, b_out))
 }

@@ -3,19 +3,19 @@
 #![tactic(auto)]
 
 ghost use Rattle.std.specs.Prelude.{◌≡◌, cond};
-ghost use Rattle.replies.specs.Replies.{no_number, numbered};
+ghost use Rattle.replies.specs.Replies.{bit_reply, no_number, number_reply, numbered};
 ghost use Rattle.duplex_min_reads.specs.MinReads.{validated, min_yx_reads, single_strand};
+ghost use Rattle.duplex_reads.specs.Choices.{read_type_of, wrong_read_type};
 ghost use Rattle.duplex_reads.specs.Reads.{written_flags};
 ghost use Rattle.duplex_partition.specs.Partition.{strand_of};
-ghost use Rattle.rust_thresholds.specs.Replies.{thresholds_reply, yx_reply, single_reply, read_type_of, wrong_read_type, strand_number};
+ghost use Rattle.rust_thresholds.specs.Replies.{thresholds_reply, strand_number};
 
 use duplex_min_reads::{
-    SingleStrand, Validated, YxReads, allows_single_strand_consensus, min_yx_reads_for,
-    validate_min_reads,
+    MinReads, allows_single_strand_consensus, min_yx_reads_for, validate_min_reads,
 };
 use duplex_partition::{MiStrand, extract_strand_from_mi_bytes};
 use duplex_reads::{ReadType, written_flags};
-use refusals::BROKEN;
+use refusals::Refusal;
 use replies::Number;
 
 // `refused` is the refusal's number; where it is 0, the three thresholds.
@@ -28,22 +28,24 @@ pub struct Thresholds {
     pub yx: u32,
 }
 
-fn thresholds_reply(answer: Validated) -> Thresholds
-    ensures { result ≡ thresholds_reply answer }
-{
-    match answer {
-        Validated::Refused(number) => Thresholds {
-            refused: number,
-            total: 0,
-            xy: 0,
-            yx: 0,
-        },
-        Validated::Thresholds(t) => Thresholds {
-            refused: 0,
-            total: t.total,
-            xy: t.xy,
-            yx: t.yx,
-        },
+impl From<Result<MinReads, Refusal>> for Thresholds {
+    ghost from_gives = { λ answer reply. reply ≡ thresholds_reply answer };
+
+    fn from(answer: Result<MinReads, Refusal>) -> Thresholds {
+        match answer {
+            Ok(t) => Thresholds {
+                refused: 0,
+                total: t.total,
+                xy: t.xy,
+                yx: t.yx,
+            },
+            Err(refusal) => Thresholds {
+                refused: refusal.number(),
+                total: 0,
+                xy: 0,
+                yx: 0,
+            },
+        }
     }
 }
 
@@ -51,76 +53,22 @@ fn thresholds_reply(answer: Validated) -> Thresholds
 pub extern "C" fn gedrashiw_validate_min_reads(min_reads: &[u32]) -> Thresholds
     ensures { result ≡ thresholds_reply (validated min_reads.now) }
 {
-    thresholds_reply(validate_min_reads(min_reads))
-}
-
-fn yx_reply(answer: YxReads) -> Number
-    ensures { result ≡ yx_reply answer }
-{
-    match answer {
-        YxReads::Refused(number) => Number {
-            refused: number,
-            number: 0,
-        },
-        YxReads::AtLeast(yx) => Number {
-            refused: 0,
-            number: yx,
-        },
-    }
+    Thresholds::from(validate_min_reads(min_reads))
 }
 
 #[unsafe(no_mangle)]
 pub extern "C" fn gedrashiw_min_yx_reads_for(min_reads: &[u32]) -> Number
-    ensures { result ≡ yx_reply (min_yx_reads min_reads.now) }
+    ensures { result ≡ number_reply (min_yx_reads min_reads.now) }
 {
-    yx_reply(min_yx_reads_for(min_reads))
-}
-
-fn single_reply(answer: SingleStrand) -> Number
-    ensures { result ≡ single_reply answer }
-{
-    match answer {
-        SingleStrand::Refused(number) => Number {
-            refused: number,
-            number: 0,
-        },
-        SingleStrand::Allowed => Number {
-            refused: 0,
-            number: 1,
-        },
-        SingleStrand::NotAllowed => Number {
-            refused: 0,
-            number: 0,
-        },
-    }
+    Number::from(min_yx_reads_for(min_reads))
 }
 
 // 1: allowed; 0: not.
 #[unsafe(no_mangle)]
 pub extern "C" fn gedrashiw_allows_single_strand_consensus(min_reads: &[u32]) -> Number
-    ensures { result ≡ single_reply (single_strand min_reads.now) }
+    ensures { result ≡ bit_reply (single_strand min_reads.now) }
 {
-    single_reply(allows_single_strand_consensus(min_reads))
-}
-
-// Whether a number stands for no read type.
-fn wrong_read_type(number: u8) -> bool
-    ensures { result ≡ wrong_read_type number }
-{
-    2 < number
-}
-
-// 0: a fragment; 1: R1; any other number: R2.
-fn read_type_of(number: u8) -> ReadType
-    ensures { result ≡ read_type_of number }
-{
-    if number == 0 {
-        return ReadType::Fragment;
-    }
-    if number == 1 {
-        return ReadType::R1;
-    }
-    ReadType::R2
+    Number::from(allows_single_strand_consensus(min_reads))
 }
 
 // The flags of a read type. Refuses by 13.
@@ -128,16 +76,11 @@ fn read_type_of(number: u8) -> ReadType
 pub extern "C" fn gedrashiw_written_flags(read_type: u8) -> Number
     ensures { result ≡ cond (wrong_read_type read_type) (no_number 13) (numbered (written_flags (read_type_of read_type))) }
 {
-    if wrong_read_type(read_type) {
-        return Number {
-            refused: BROKEN,
-            number: 0,
-        };
-    }
-    Number {
-        refused: 0,
-        number: written_flags(read_type_of(read_type)) as u32,
-    }
+    Number::from(
+        ReadType::try_from(read_type)
+            .map(written_flags)
+            .map(u32::from),
+    )
 }
 
 // 0 where no strand is named, 1 for A, 2 for B.
@@ -146,8 +89,8 @@ pub extern "C" fn gedrashiw_extract_strand_from_mi_bytes(mi_bytes: &[u8]) -> u8
     ensures { result ≡ strand_number (strand_of mi_bytes.now) }
 {
     match extract_strand_from_mi_bytes(mi_bytes) {
-        MiStrand::A => 1,
-        MiStrand::B => 2,
-        MiStrand::Unnamed => 0,
+        Some(MiStrand::A) => 1,
+        Some(MiStrand::B) => 2,
+        None => 0,
     }
 }

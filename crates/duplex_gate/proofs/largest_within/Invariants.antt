@@ -1,22 +1,13 @@
 -- What the loops keep.
-use Prim.Native.Nat.{◌≤◌, ◌-◌}
-use Rattle.duplex_gate.proofs.Within.{Found}
+use mathlib.Core.Path.{◌≡◌}
+use Rattle.duplex_gate.specs.ConsensusGate.{largest_within}
 use Rattle.duplex_gate.proofs.largest_within.Given as goal
 
 abbrev pub invariant-loop-i : goal.invariant-loop-i
-invariant-loop-i l = Found l.positions l.ab l.i l.of_ab × Found l.positions l.ba l.i l.of_ba
+invariant-loop-i l = (l.of_ab ≡ largest_within l.i l.ab) × (l.of_ba ≡ largest_within l.i l.ba)
 
 abbrev pub invariant-loop-i-2 : goal.invariant-loop-i-2
-invariant-loop-i-2 l = Found l.positions l.ab l.i l.of_ab × Found l.positions l.ba l.i l.of_ba × (l.both ≤ l.i)
+invariant-loop-i-2 l = l.of_ab ≡ largest_within l.i l.ab
 
 abbrev pub invariant-loop-i-3 : goal.invariant-loop-i-3
-invariant-loop-i-3 l = Found l.positions l.ab l.i l.of_ab × Found l.positions l.ba l.i l.of_ba × (l.ab_end ≤ l.i)
-
-abbrev pub decreases-loop-i : goal.decreases-loop-i
-decreases-loop-i l = l.both - l.i
-
-abbrev pub decreases-loop-i-2 : goal.decreases-loop-i-2
-decreases-loop-i-2 l = l.ab_end - l.i
-
-abbrev pub decreases-loop-i-3 : goal.decreases-loop-i-3
-decreases-loop-i-3 l = l.ba_end - l.i
+invariant-loop-i-3 l = l.of_ba ≡ largest_within l.i l.ba

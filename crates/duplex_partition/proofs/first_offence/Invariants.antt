@@ -1,12 +1,7 @@
 -- What the loop keeps.
-use mathlib.Core.Path.{◌≡◌}
-use Prim.Native.Nat.{◌≤◌, ◌-◌}
-use lib.ListN.{length, take}
+use Rattle.std.proofs.Common.{◌≡◌, drop}
 use Rattle.duplex_partition.specs.Partition.{first_offence}
 use Rattle.duplex_partition.proofs.first_offence.Given as goal
 
-abbrev pub invariant-loop-i : goal.invariant-loop-i
-invariant-loop-i l = (l.i ≤ length l.reads) × (l.found ≡ first_offence l.bytes (take l.i l.reads))
-
-abbrev pub decreases-loop-i : goal.decreases-loop-i
-decreases-loop-i l = length l.reads - l.i
+abbrev pub invariant-loop-read : goal.invariant-loop-read
+invariant-loop-read l = first_offence l.bytes (drop l.read-index l.reads) ≡ first_offence l.bytes l.reads

@@ -1,6 +1,4 @@
 -- What the loop keeps.
-use Prim.Native.Nat.{◌-◌}
-use lib.ListN.{length}
 use Rattle.lists.proofs.Indices.{Picking}
 use Rattle.duplex_partition.specs.Partition.{read_strand, is_a, is_b}
 use Rattle.duplex_partition.proofs.write_partition.Given as goal
@@ -9,6 +7,3 @@ abbrev pub invariant-loop-i : goal.invariant-loop-i
 invariant-loop-i l =
     Picking (λ read. is_a (read_strand l.bytes read)) l.reads l.initial.a_out l.i l.a_out l.a
     × Picking (λ read. is_b (read_strand l.bytes read)) l.reads l.initial.b_out l.i l.b_out l.b
-
-abbrev pub decreases-loop-i : goal.decreases-loop-i
-decreases-loop-i l = length l.reads - l.i
