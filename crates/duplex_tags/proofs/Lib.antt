@@ -1,5 +1,3 @@
-pub mod Fits
 pub mod Counts
 pub mod Refused
-pub mod Leaves
 pub mod Most

@@ -1,14 +1,13 @@
 -- For callers: with outputs that are long enough for any tags, row 12 never refuses. Assumes nothing.
 use mathlib.Core.Path.{◌≡◌, refl, sym, ◌∙◌}
-use mathlib.Core.Bool.{Bool, true, false}
+use mathlib.Core.Bool.{false}
 use mathlib.Core.List.{List}
 use Prim.Native.Nat.{ℕ}
 use native.Mathlib.Omega.{arith}
-use borrow.Author.Tests.{le-ltb, eqb-true}
-use lib.Dec.{eqb}
+use borrow.Author.Tests.{le-ltb}
 use lib.ListN.{length}
-use Rattle.refusals.specs.Refusal.{refusal}
-use Rattle.methylation.specs.declared.Annotation.{Annotation}
+use Rattle.refusals.specs.declared.Refusal.{Refusal}
+use Rattle.refusals.specs.Refusal.{refused}
 use Rattle.methylation.specs.declared.MethylationMode.{MethylationMode}
 use Rattle.duplex_texts.specs.Texts.{Strand, TextArrays}
 use Rattle.duplex_texts.specs.Outputs.{text_lengths, RoomTexts, given_of, most_texts}
@@ -18,10 +17,11 @@ use Rattle.duplex_tags.specs.Tags.{KindArrays, CountArrays}
 use Rattle.duplex_tags.specs.Outputs.{kind_lengths, RoomKind, kind_too_short, duplex_refused, most_counts}
 use Rattle.duplex_tags.specs.Parts.{places_of, needed_counts}
 use Rattle.duplex_tags.proofs.Counts.{few_places}
-use Rattle.duplex_tags.proofs.Refused.{all_tests, own_is}
+use Rattle.duplex_tags.proofs.Refused.{own_is, by_given}
+use Rattle.std.proofs.Common.{Option, Some, None}
+use Rattle.methylation.specs.declared.ConversionPattern.{ConversionPattern}
 
-kind_fits : (n : ℕ) (a b : Annotation) (out : KindArrays) → RoomKind (most_counts n) (kind_lengths out) → kind_too_short (needed_counts n a b) (kind_lengths out) ≡ false
-unfolding kind_too_short
+kind_fits : (n : ℕ) (a b : Option ConversionPattern) (out : KindArrays) → RoomKind (most_counts n) (kind_lengths out) → kind_too_short (needed_counts n a b) (kind_lengths out) ≡ false
 kind_fits n a b out ample =
     let few_a = few_places a n in
     let few_b = few_places b n in
@@ -33,16 +33,13 @@ pub ample_outputs :
     → RoomTexts (most_texts (length bases)) (text_lengths texts)
     → RoomKind (most_counts (length bases)) (kind_lengths counts.unconverted)
     → RoomKind (most_counts (length bases)) (kind_lengths counts.converted)
-    → duplex_refused mode bases a b texts counts ≡ refusal (given_of bases a b)
-ample_outputs mode bases a b texts counts for_texts for_unconverted for_converted = go (eqb (refusal (given_of bases a b)) 0) refl
+    → duplex_refused mode bases a b texts counts ≡ refused (given_of bases a b)
+ample_outputs mode bases a b texts counts for_texts for_unconverted for_converted = go (refused (given_of bases a b)) refl
   where
-    go : (x : Bool) → eqb (refusal (given_of bases a b)) 0 ≡ x → duplex_refused mode bases a b texts counts ≡ refusal (given_of bases a b)
-    go true g =
-        let zero = eqb-true (refusal (given_of bases a b)) 0 g in
-        let few = (as_long (length bases) a b refl zero).0.few in
+    go : (row : Option Refusal) → refused (given_of bases a b) ≡ row → duplex_refused mode bases a b texts counts ≡ refused (given_of bases a b)
+    go None g =
+        let few = (as_long bases a b g).0.few in
         let short = texts_fit mode bases a b few texts for_texts in
-        let own = own_is mode bases a b texts counts zero in
-        let room = rw (kind_fits (length bases) a.annotation b.annotation counts.unconverted for_unconverted, kind_fits (length bases) a.annotation b.annotation counts.converted for_converted) at own in
-        let all = rw (g, short, sym room) at (all_tests mode bases a b texts counts) in
-        all ∙ sym zero
-    go false g = rw g at (all_tests mode bases a b texts counts)
+        let room = rw (kind_fits (length bases) a.annotation b.annotation counts.unconverted for_unconverted, kind_fits (length bases) a.annotation b.annotation counts.converted for_converted) at (own_is mode bases a b texts counts g) in
+        rw (short, sym room)
+    go (Some row) g = by_given mode bases a b texts counts g ∙ sym g

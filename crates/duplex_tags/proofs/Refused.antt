@@ -1,55 +1,100 @@
 -- The refusal of a call that tests the sequence, the evidence and the outputs of counts itself, and leaves those of the texts to
 -- `duplex_texts`.
 --     needed_lengths               how many counts go to each output
---     refused_first                the number of its own test
---     Passed, passed_first         what that test leaves, and that the number then is that of the texts
+--     given_first                  its first test is that of `duplex_texts`
+--     refused_first, refused_texts, all_written     what the call answers and leaves, by the test that refused it, or by none
+--     met_first, by_texts          the refusal, by its own test, and by that of the texts where its own refuses nothing
+--     passed_first                 what its own test leaves
 --     enough_room                  the room that it leaves
---     number_is                    the number that the texts' answer has
 -- Assumes nothing.
 use mathlib.Core.Path.{◌≡◌, refl, sym, ap, ap₂, ◌∙◌}
 use mathlib.Core.Bool.{Bool, true, false, cond, ◌||◌}
-use mathlib.Core.List.{List, [], ◌∷◌}
-use Prim.Native.Nat.{ℕ, zero, suc}
-use native.Mathlib.Omega.{arith}
-use lib.Dec.{eqb}
+use mathlib.Core.List.{List}
+use Prim.Native.Nat.{ℕ}
 use lib.ListN.{length}
-use borrow.Author.Tests.{ltb-false, eqb-true, eqb-false}
-use Rattle.lists.specs.Output.{unless, answer}
-use Rattle.refusals.specs.Refusal.{◌if◌, refusal, refuse_if, OutputTooShort}
+use borrow.Author.Tests.{ltb-false}
+use Rattle.std.proofs.Common.{Option, Some, None, Ok, Err}
+use Rattle.std.proofs.lemmas.Option.{none-some}
+use Rattle.refusals.specs.declared.Refusal.{Refusal}
+use Rattle.refusals.specs.declared.Refusal.TheVariants.{TooLong, Ragged, OutputTooShort}
+use Rattle.refusals.specs.Refusal.{refused}
 use Rattle.refusals.proofs.Condition.{neither}
-use Rattle.refusals.proofs.Refusal.{and_then}
 use Rattle.methylation.specs.Methylation.{is_annotated}
-use Rattle.methylation.specs.declared.Annotation.{Annotation}
+use Rattle.methylation.specs.declared.ConversionPattern.{ConversionPattern}
 use Rattle.methylation.specs.declared.MethylationMode.{MethylationMode}
 use Rattle.methylation_evidence.proofs.Counts.{summed_length}
+use Rattle.refusals.proofs.Outcome.{refused_by, passed_by}
 use Rattle.duplex_texts.specs.Texts.{Strand, TextArrays, duplex_texts}
-use Rattle.duplex_texts.specs.Outputs.{text_lengths, given_faults, given_of, texts_too_short, texts_faults, texts_refused, written}
-use Rattle.duplex_texts.specs.declared.DuplexTexts.{DuplexTexts}
-use Rattle.duplex_texts.specs.declared.DuplexTexts.TheVariants.{Refused}
+use Rattle.duplex_texts.specs.Outputs.{text_lengths, strand_lengths, given_faults, given_of, texts_too_short, texts_refused, DuplexTextsAs}
+use Rattle.duplex_texts.specs.declared.StrandLengths.{StrandLengths}
 use Rattle.duplex_texts.specs.declared.TextLengths.{TextLengths}
-use Rattle.duplex_texts.proofs.Refused.{as_long}
+use Rattle.duplex_texts.proofs.Refused.{is_long, is_uneven, as_long}
 use Rattle.duplex_tags.specs.Tags.{CountArrays, counts_of, kind_counts, duplex_counts}
-use Rattle.duplex_tags.specs.Outputs.{kind_lengths, RoomKind, kind_too_short, counts_too_short, duplex_faults, duplex_refused}
-use Rattle.duplex_tags.specs.Parts.{needed_counts, number_of}
+use Rattle.duplex_tags.specs.Outputs.{kind_lengths, RoomKind, kind_too_short, counts_too_short, duplex_refused, LeavesCounts, DuplexTaggedAs}
+use Rattle.duplex_tags.specs.Parts.{needed_counts, counts_refused}
 use Rattle.duplex_tags.specs.declared.KindLengths.{KindLengths}
 use Rattle.duplex_tags.proofs.Counts.{tag_length}
 
 pub needed_lengths :
-    (n : ℕ) (a b : Annotation) (xs ys : List ℕ)
+    (n : ℕ) (a b : Option ConversionPattern) (xs ys : List ℕ)
     → (is_annotated a ≡ true → length xs ≡ n)
     → (is_annotated b ≡ true → length ys ≡ n)
     → needed_counts n a b ≡ kind_lengths (kind_counts n a xs b ys)
 unfolding kind_counts
 needed_lengths n a b xs ys for_a for_b = rw (tag_length a n xs for_a, tag_length b n ys for_b, summed_length n (counts_of a xs) (counts_of b ys))
 
--- A single test of row 12.
-room_alone : (short : Bool) → refusal ((OutputTooShort if short) ∷ []) ≡ cond short 12 0
-unfolding refusal
-room_alone short = refl
+either_true : (s : Bool) → (s || true) ≡ true
+either_true true = refl
+either_true false = refl
+
+either_false : (s : Bool) → (s || false) ≡ s
+either_false true = refl
+either_false false = refl
+
+-- A call's three tests, one after another.
+abbrev rows : Bool → Bool → Bool → Option Refusal
+rows large odd short = cond large (Some TooLong) (cond odd (Some Ragged) (cond short (Some OutputTooShort) None))
+
+-- The first two alone.
+abbrev two : Bool → Bool → Option Refusal
+two large odd = cond large (Some TooLong) (cond odd (Some Ragged) None)
+
+-- What refuses by the first two refuses whatever the third.
+still : (large odd short : Bool) {row : Refusal} → two large odd ≡ Some row → rows large odd short ≡ Some row
+still true odd short e = e
+still false true short e = e
+still false false short e = absurd (none-some _ e)
+
+-- Where all three tests refuse nothing.
+none_met : (large odd short : Bool) → rows large odd short ≡ None → (two large odd ≡ None) × (short ≡ false)
+none_met true odd short e = absurd (none-some _ (sym e))
+none_met false true short e = absurd (none-some _ (sym e))
+none_met false false true e = absurd (none-some _ (sym e))
+none_met false false false e = (refl, refl)
+
+-- The call's own third test f is one part of the whole's, and the other's is the rest.
+module _ (large odd s f own : Bool) (same : two large odd ≡ None → own ≡ f) where
+  first_met : {row : Refusal} → rows large odd own ≡ Some row → rows large odd (s || f) ≡ Some row
+  first_met e = go large odd own same e
+    where
+      go : (l o w : Bool) {row : Refusal} → (two l o ≡ None → w ≡ f) → rows l o w ≡ Some row → rows l o (s || f) ≡ Some row
+      go true o w h e = e
+      go false true w h e = e
+      go false false true h e = rw (sym (h refl), either_true s) e
+      go false false false h e = absurd (none-some _ e)
+
+  rest_left : own ≡ false → two large odd ≡ None → rows large odd s ≡ rows large odd (s || f)
+  rest_left o e = rw (sym (same e) ∙ o, either_false s)
+
+pub given_first : (n : ℕ) (a b : StrandLengths) (unconverted converted : KindLengths) {row : Refusal} → refused (given_faults n a b) ≡ Some row → counts_refused n a b unconverted converted ≡ Some row
+given_first n a b unconverted converted e = still _ _ _ e
 
 module _ (mode : MethylationMode) (bases : List ℕ) (a b : Strand) (texts : TextArrays) (counts : CountArrays) where
-  abbrev given : ℕ
-  given = refusal (given_of bases a b)
+  abbrev large : Bool
+  large = is_long (length bases) a b
+
+  abbrev odd : Bool
+  odd = is_uneven (length bases) a b
 
   abbrev short : Bool
   short = texts_too_short (text_lengths (duplex_texts mode bases a b)) (text_lengths texts)
@@ -57,89 +102,63 @@ module _ (mode : MethylationMode) (bases : List ℕ) (a b : Strand) (texts : Tex
   abbrev few : Bool
   few = counts_too_short (duplex_counts (length bases) a b) counts
 
-  pub all_tests : duplex_refused mode bases a b texts counts ≡ cond (eqb given 0) (cond (short || few) 12 0) given
-  unfolding duplex_faults given_faults
-  all_tests = and_then (given_of bases a b) ((OutputTooShort if (short || few)) ∷ []) refl ∙ ap (λ (k : ℕ). cond (eqb given 0) k given) (room_alone (short || few))
-
-  texts_tests : texts_refused mode bases a b texts ≡ cond (eqb given 0) (cond short 12 0) given
-  unfolding texts_faults given_faults
-  texts_tests = and_then (given_of bases a b) ((OutputTooShort if short) ∷ []) refl ∙ ap (λ (k : ℕ). cond (eqb given 0) k given) (room_alone short)
-
   -- What the call's own test looks at is what is written, where the sequence and the evidence are not refused.
-  abbrev needed : KindLengths
-  needed = needed_counts (length bases) a.annotation b.annotation
+  abbrev needed_by : KindLengths
+  needed_by = needed_counts (length bases) a.annotation b.annotation
 
-  abbrev own : Bool
-  own = kind_too_short needed (kind_lengths counts.unconverted) || kind_too_short needed (kind_lengths counts.converted)
+  abbrev pub own : Bool
+  own = kind_too_short needed_by (kind_lengths counts.unconverted) || kind_too_short needed_by (kind_lengths counts.converted)
 
-  pub own_is : given ≡ 0 → own ≡ few
+  abbrev pub by_own : Option Refusal
+  by_own = counts_refused (length bases) (strand_lengths a) (strand_lengths b) (kind_lengths counts.unconverted) (kind_lengths counts.converted)
+
+  pub own_is : refused (given_of bases a b) ≡ None → own ≡ few
   own_is z =
-      let (for_a, for_b) = as_long (length bases) a b refl z in
+      let (for_a, for_b) = as_long bases a b z in
       ap₂ ◌||◌
       (ap (λ (k : KindLengths). kind_too_short k (kind_lengths counts.unconverted)) (needed_lengths (length bases) a.annotation b.annotation a.evidence.unconverted b.evidence.unconverted for_a.unconverted for_b.unconverted))
       (ap (λ (k : KindLengths). kind_too_short k (kind_lengths counts.converted)) (needed_lengths (length bases) a.annotation b.annotation a.evidence.converted b.evidence.converted for_a.converted for_b.converted))
 
-  either : (s f : Bool) → f ≡ true → ◌≡◌ {A = ℕ} (cond (s || f) 12 0) 12
-  either true f e = refl
-  either false f e = rw e
+  kept : {row : Refusal} → LeavesCounts (Some row) (duplex_counts (length bases) a b) counts counts
+  kept = record { unconverted = record { a = refl; b = refl; both = refl }; converted = record { a = refl; b = refl; both = refl } }
 
-  pub refused_first : {n : ℕ} → n ≡ refuse_if given own 12 → (n ≡ 0 → ⊥) → n ≡ duplex_refused mode bases a b texts counts
-  unfolding refuse_if
-  refused_first {n} e h = go (eqb given 0) refl
-    where
-      known : eqb given 0 ≡ true → (o : Bool) → own ≡ o → n ≡ duplex_refused mode bases a b texts counts
-      known g true o =
-          let twelve : n ≡ 12 = rw (g, o) at e in
-          let full : few ≡ true = sym (own_is (eqb-true given 0 g)) ∙ o in
-          let all = rw g at all_tests in
-          twelve ∙ sym (all ∙ either short few full)
-      known g false o =
-          let none : n ≡ 0 = rw (g, o) at e in
-          absurd (h none)
+  -- Refused by the sequence or the evidence.
+  pub by_given : {row : Refusal} → refused (given_of bases a b) ≡ Some row → duplex_refused mode bases a b texts counts ≡ Some row
+  by_given e = still large odd (short || few) e
 
-      go : (x : Bool) → eqb given 0 ≡ x → n ≡ duplex_refused mode bases a b texts counts
-      go true g = known g own refl
-      go false g =
-          let same : n ≡ given = rw g at e in
-          let all = rw g at all_tests in
-          same ∙ sym all
+  pub met_first : {row : Refusal} → by_own ≡ Some row → duplex_refused mode bases a b texts counts ≡ Some row
+  met_first e = first_met large odd short few own own_is e
 
-  -- Where the call's own test refuses nothing, the number is that of the texts.
-  pub record Passed : Type 0 where
-    pub given_passed : given ≡ 0
-    pub room_passed : own ≡ false
+  pub refused_first : {row : Refusal} → by_own ≡ Some row → DuplexTaggedAs mode bases a b texts counts texts counts (Err row)
+  refused_first e =
+      let met = met_first e in
+      record { answered = rw met; the_texts = rw met (record { seq = refl; a_mm = refl; b_mm = refl; mm = refl; ml = refl }); the_counts = rw met kept }
+
+  pub passed_first : by_own ≡ None → (refused (given_of bases a b) ≡ None) × (own ≡ false)
+  passed_first e = none_met large odd own e
+
+  -- Then the refusal is that of the texts.
+  module _ (e : by_own ≡ None) where
     pub by_texts : texts_refused mode bases a b texts ≡ duplex_refused mode bases a b texts counts
+    by_texts =
+        let (given, room) = passed_first e in
+        rest_left large odd short few own own_is room given
 
-  without : (s f : Bool) → f ≡ false → ◌≡◌ {A = ℕ} (cond s 12 0) (cond (s || f) 12 0)
-  without true f e = refl
-  without false f e = rw e
+    pub refused_texts : {now : TextArrays} {row : Refusal} → DuplexTextsAs mode bases a b texts now (Err row) → DuplexTaggedAs mode bases a b texts counts now counts (Err row)
+    refused_texts t =
+        let all = rw by_texts at t.answered in
+        record { answered = all; the_texts = rw by_texts at t.outputs; the_counts = rw (refused_by _ _ (sym all)) kept }
 
-  pub passed_first : {n : ℕ} → n ≡ refuse_if given own 12 → n ≡ 0 → Passed
-  unfolding refuse_if
-  passed_first {n} e z = go (eqb given 0) refl
-    where
-      known : eqb given 0 ≡ true → (o : Bool) → own ≡ o → Passed
-      known g true o =
-          let twelve : n ≡ 12 = rw (g, o) at e in
-          absurd (omega arith)
-      known g false o =
-          let zero_given = eqb-true given 0 g in
-          let of_texts = rw g at texts_tests in
-          let all = rw g at all_tests in
-          record {
-            given_passed = zero_given;
-            room_passed = o;
-            by_texts = of_texts ∙ without short few (sym (own_is zero_given) ∙ o) ∙ sym all;
-          }
-
-      go : (x : Bool) → eqb given 0 ≡ x → Passed
-      go true g = known g own refl
-      go false g =
-          let same : n ≡ given = rw g at e in
-          absurd (eqb-false given 0 g (sym same ∙ z))
+    pub all_written :
+        {now : TextArrays} {n : TextLengths} {counts_now : CountArrays}
+        → DuplexTextsAs mode bases a b texts now (Ok n)
+        → LeavesCounts None (duplex_counts (length bases) a b) counts counts_now
+        → DuplexTaggedAs mode bases a b texts counts now counts_now (Ok n)
+    all_written t l =
+        let all = rw by_texts at t.answered in
+        record { answered = all; the_texts = rw by_texts at t.outputs; the_counts = rw (passed_by _ _ (sym all)).0 l }
 
 kind_room : (needed out : KindLengths) → kind_too_short needed out ≡ false → RoomKind needed out
-unfolding kind_too_short
 kind_room needed out e =
     let (h1, r1) = neither _ _ e in
     let (h2, h3) = neither _ _ r1 in
@@ -149,11 +168,3 @@ pub enough_room : (needed unconverted converted : KindLengths) → (kind_too_sho
 enough_room needed unconverted converted e =
     let (h, k) = neither _ _ e in
     (kind_room needed unconverted h, kind_room needed converted k)
-
-pub number_is : (number : ℕ) (n : TextLengths) {r : DuplexTexts} → r ≡ answer Refused number (written n) → number_of r ≡ number
-unfolding answer unless
-number_is number n e = ap number_of e ∙ go number
-  where
-    go : (k : ℕ) → number_of (answer Refused k (written n)) ≡ k
-    go zero = refl
-    go (suc k) = refl

@@ -1,13 +1,13 @@
 -- The counts of a duplex record, document 01: each strand's, held at 32,767, and both strands' summed over the sequence.
-use Rattle.std.specs.Prelude.{ℕ, List}
+use Rattle.std.specs.Prelude.{Option, ℕ, List}
 use Rattle.lists.specs.Part.{only_if}
 use Rattle.methylation.specs.Methylation.{is_annotated}
-use Rattle.methylation.specs.declared.Annotation.{Annotation}
 use Rattle.methylation_evidence.specs.Counts.{tag_counts, summed_counts}
 use Rattle.duplex_texts.specs.Texts.{Strand}
+use Rattle.methylation.specs.declared.ConversionPattern.{ConversionPattern}
 
 -- Counts of a strand: none without an annotation.
-unfoldable pub counts_of : Annotation → List ℕ → List ℕ
+unfoldable pub counts_of : Option ConversionPattern → List ℕ → List ℕ
 counts_of annotation counts = only_if (is_annotated annotation) counts
 
 -- Counts of one kind, unconverted or converted: of the first strand, of the second, and summed.
@@ -20,7 +20,7 @@ abbrev pub kind_arrays : List ℕ → List ℕ → List ℕ → KindArrays
 kind_arrays a b both = record { a = a; b = b; both = both }
 
 -- Those of a record of n positions.
-unfoldable pub kind_counts : ℕ → Annotation → List ℕ → Annotation → List ℕ → KindArrays
+unfoldable pub kind_counts : ℕ → Option ConversionPattern → List ℕ → Option ConversionPattern → List ℕ → KindArrays
 kind_counts n a a_counts b b_counts = record {
   a = tag_counts (counts_of a a_counts);
   b = tag_counts (counts_of b b_counts);

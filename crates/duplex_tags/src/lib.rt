@@ -2,32 +2,18 @@
 // methylation_evidence and duplex_texts.
 #![tactic(auto)]
 
-ghost use Rattle.std.specs.Prelude.{◌≡◌, ◌||◌, ◌≤◌, length};
-ghost use Rattle.refusals.specs.Refusal.{refusal, refuse_if};
-ghost use Rattle.duplex_texts.specs.Texts.{strand, text_arrays};
-ghost use Rattle.duplex_texts.specs.Outputs.{given_faults};
-ghost use Rattle.duplex_tags.specs.Tags.{kind_arrays, kind_counts, count_arrays};
+ghost use Rattle.std.specs.Prelude.{◌≡◌, None, length};
+ghost use Rattle.refusals.specs.Outcome.{answer};
+ghost use Rattle.methylation_evidence.specs.Counts.{tag_counts, summed_counts};
+ghost use Rattle.duplex_texts.specs.Texts.{strand_in, text_arrays};
+ghost use Rattle.duplex_tags.specs.Tags.{counts_of, kind_arrays, count_arrays};
 ghost use Rattle.duplex_tags.specs.Outputs.{kind_too_short, LeavesKind, DuplexTaggedAs};
-ghost use Rattle.duplex_tags.specs.Parts.{places_of, needed_counts, Countable, number_of, tags_of};
+ghost use Rattle.duplex_tags.specs.Parts.{needed_counts, counts_refused, Countable};
 
-use duplex_texts::{DuplexTexts, duplex_texts, given_refusal};
-use methylation::{Annotation, EvidenceLengths, MethylationMode, is_annotated};
+use duplex_texts::{StrandLengths, StrandSlices, TextLengths, duplex_texts, given_refusal};
+use methylation::{ConversionPattern, MethylationMode, evidence_places};
 use methylation_evidence::{summed_counts, unconverted_counts};
-use refusals::{OUTPUT_TOO_SHORT, refuse_if};
-
-#[derive(Clone, Copy)]
-pub enum DuplexMethylationTags {
-    Refused(u8),
-    // The sequence and each array of counts that is there have so many positions, each text and the ML array so many bytes: 0 for
-    // a tag that is not there.
-    Tags {
-        positions: usize,
-        a_mm: usize,
-        b_mm: usize,
-        mm: usize,
-        ml: usize,
-    },
-}
+use refusals::{Refusal, refuse};
 
 // How many places each output of one kind of counts has, or how many go there.
 #[derive(Clone, Copy)]
@@ -37,28 +23,17 @@ pub struct KindLengths {
     pub both: usize,
 }
 
-// How many counts a strand has.
-fn places(annotation: Annotation, positions: usize) -> usize
-    ensures { result ≡ places_of annotation positions }
-{
-    if is_annotated(annotation) {
-        positions
-    } else {
-        0
-    }
-}
-
 // How many counts of one kind go to each output.
 fn needed_counts(
     positions: usize,
-    a_annotation: Annotation,
-    b_annotation: Annotation,
+    a: Option<ConversionPattern>,
+    b: Option<ConversionPattern>,
 ) -> KindLengths
-    ensures { result ≡ needed_counts positions a_annotation b_annotation }
+    ensures { result ≡ needed_counts positions a b }
 {
     KindLengths {
-        a: places(a_annotation, positions),
-        b: places(b_annotation, positions),
+        a: evidence_places(a.is_some(), positions),
+        b: evidence_places(b.is_some(), positions),
         both: positions,
     }
 }
@@ -70,99 +45,63 @@ fn kind_too_short(needed: KindLengths, out: KindLengths) -> bool
     (out.a < needed.a) | ((out.b < needed.b) | (out.both < needed.both))
 }
 
-// The number that refuses the sequence, the evidence, or the outputs of counts, 0 for none.
+// Refuses the sequence, the evidence, or the outputs of counts, by their lengths.
 pub fn counts_refusal(
     bases: usize,
-    a_annotation: Annotation,
-    a: EvidenceLengths,
-    b_annotation: Annotation,
-    b: EvidenceLengths,
+    a: StrandLengths,
+    b: StrandLengths,
     unconverted: KindLengths,
     converted: KindLengths,
-) -> u8
-    ensures { result ≡ refuse_if (refusal (given_faults bases a_annotation a b_annotation b)) (kind_too_short (needed_counts bases a_annotation b_annotation) unconverted || kind_too_short (needed_counts bases a_annotation b_annotation) converted) 12 }
+) -> Result<(), Refusal>
+    ensures { result ≡ answer (counts_refused bases a b unconverted converted) tt }
 {
-    let number = given_refusal(bases, a_annotation, a, b_annotation, b);
-    let needed = needed_counts(bases, a_annotation, b_annotation);
+    given_refusal(bases, a, b)?;
+    let needed = needed_counts(bases, a.annotation, b.annotation);
     let too_short = kind_too_short(needed, unconverted) | kind_too_short(needed, converted);
-    refuse_if(number, too_short, OUTPUT_TOO_SHORT)
+    refuse(too_short, Refusal::OutputTooShort)
 }
 
-// The number that refused the texts, 0 for none.
-fn number_of(texts: DuplexTexts) -> u8
-    ensures { result ≡ number_of texts }
+// A strand's counts of one kind: none without an annotation.
+#[tactic(auto, unfolding(crate::specs::Tags::counts_of, lists::specs::Part::only_if))]
+fn counts_of(annotation: Option<ConversionPattern>, counts: &[u32]) -> &[u32]
+    ensures { result.now ≡ counts_of annotation counts.now }
 {
-    match texts {
-        DuplexTexts::Refused(number) => number,
-        DuplexTexts::Texts { .. } => 0,
-    }
+    if annotation.is_some() { counts } else { &[] }
 }
 
-// The texts' answer, as that of a record's tags.
-pub fn tags_of(texts: DuplexTexts) -> DuplexMethylationTags
-    ensures { result ≡ tags_of texts }
-{
-    match texts {
-        DuplexTexts::Refused(number) => DuplexMethylationTags::Refused(number),
-        DuplexTexts::Texts {
-            seq,
-            a_mm,
-            b_mm,
-            mm,
-            ml,
-        } => DuplexMethylationTags::Tags {
-            positions: seq,
-            a_mm,
-            b_mm,
-            mm,
-            ml,
-        },
-    }
-}
-
-// Writes each strand's counts of one kind, and their sums over the sequence.
+// Writes each strand's counts of one kind, and their sums over the sequence. No call is refused here.
+// Lent outputs stay apart: the borrow checker has no rule for a struct of them that is passed on.
 fn write_counts(
     positions: usize,
-    a_annotation: Annotation,
     a: &[u32],
-    b_annotation: Annotation,
     b: &[u32],
     a_out: &mut [u16],
     b_out: &mut [u16],
     out: &mut [u16],
 )
-    requires countable { Countable positions a_annotation (length a.now) (length a_out.old) }
-    requires countable_2 { Countable positions b_annotation (length b.now) (length b_out.old) }
-    requires positions_in_bounds { positions ≤ length out.old }
-    ensures { LeavesKind 0
-        (kind_counts positions a_annotation a.now b_annotation b.now)
+    requires of_a { Countable (length a.now) (length a_out.old) }
+    requires of_b { Countable (length b.now) (length b_out.old) }
+    requires of_both { Countable positions (length out.old) }
+    ensures { LeavesKind None
+        (kind_arrays (tag_counts a.now) (tag_counts b.now) (summed_counts positions a.now b.now))
         (kind_arrays a_out.old b_out.old out.old)
         (kind_arrays a_out.new b_out.new out.new) }
 {
-    let a_places = places(a_annotation, positions);
-    let b_places = places(b_annotation, positions);
-    let of_a = &a[0..a_places];
-    let of_b = &b[0..b_places];
-    unconverted_counts(of_a, a_out);
-    unconverted_counts(of_b, b_out);
-    summed_counts(positions, of_a, of_b, out);
+    let _ = unconverted_counts(a, a_out);
+    let _ = unconverted_counts(b, b_out);
+    let _ = summed_counts(positions, a, b, out);
 }
 
 // A duplex record's sequence and methylation tags, from its consensus bases and the annotations of its strands, in strand order.
 // Each strand's annotation restores the sequence first. Then each strand's MM text, the combined MM and ML with C-to-T groups
 // first, each strand's counts held to 32,767, and the strands' counts summed. Of an absent annotation no array is looked at, and
 // nothing goes to its outputs. A text has at most 5 bytes and 5 for each position, the combined one twice that, and ML 2 for each
-// position. Refuses by 7, 8, 12.
+// position. Answers how many positions there are, and how many bytes each text and the ML array have. Refuses by 7, 8, 12.
+// Lent outputs stay apart: the borrow checker has no rule for a struct of them that is passed on.
 pub fn duplex_methylation_tags(
     bases: &[u8],
-    a_annotation: Annotation,
-    a_marks: &[u8],
-    a_unconverted: &[u32],
-    a_converted: &[u32],
-    b_annotation: Annotation,
-    b_marks: &[u8],
-    b_unconverted: &[u32],
-    b_converted: &[u32],
+    a: StrandSlices<'_>,
+    b: StrandSlices<'_>,
     mode: MethylationMode,
     seq_out: &mut [u8],
     a_mm_out: &mut [u8],
@@ -175,27 +114,14 @@ pub fn duplex_methylation_tags(
     b_converted_out: &mut [u16],
     unconverted_out: &mut [u16],
     converted_out: &mut [u16],
-) -> DuplexMethylationTags
-    ensures { DuplexTaggedAs mode bases.now
-        (strand a_annotation a_marks.now a_unconverted.now a_converted.now)
-        (strand b_annotation b_marks.now b_unconverted.now b_converted.now)
+) -> Result<TextLengths, Refusal>
+    ensures { DuplexTaggedAs mode bases.now (strand_in a.entry) (strand_in b.entry)
         (text_arrays seq_out.old a_mm_out.old b_mm_out.old mm_out.old ml_out.old)
         (count_arrays a_unconverted_out.old a_converted_out.old b_unconverted_out.old b_converted_out.old unconverted_out.old converted_out.old)
         (text_arrays seq_out.new a_mm_out.new b_mm_out.new mm_out.new ml_out.new)
         (count_arrays a_unconverted_out.new a_converted_out.new b_unconverted_out.new b_converted_out.new unconverted_out.new converted_out.new)
         result }
 {
-    let positions = bases.len();
-    let a_evidence = EvidenceLengths {
-        marks: a_marks.len(),
-        unconverted: a_unconverted.len(),
-        converted: a_converted.len(),
-    };
-    let b_evidence = EvidenceLengths {
-        marks: b_marks.len(),
-        unconverted: b_unconverted.len(),
-        converted: b_converted.len(),
-    };
     let unconverted = KindLengths {
         a: a_unconverted_out.len(),
         b: b_unconverted_out.len(),
@@ -206,58 +132,26 @@ pub fn duplex_methylation_tags(
         b: b_converted_out.len(),
         both: converted_out.len(),
     };
-    let number = counts_refusal(
-        positions,
-        a_annotation,
-        a_evidence,
-        b_annotation,
-        b_evidence,
-        unconverted,
-        converted,
-    );
-    if number != 0 {
-        return DuplexMethylationTags::Refused(number);
-    }
-    let texts = duplex_texts(
-        bases,
-        a_annotation,
-        a_marks,
-        a_unconverted,
-        a_converted,
-        b_annotation,
-        b_marks,
-        b_unconverted,
-        b_converted,
-        mode,
-        seq_out,
-        a_mm_out,
-        b_mm_out,
-        mm_out,
-        ml_out,
-    );
-    let number = number_of(texts);
-    if number != 0 {
-        return DuplexMethylationTags::Refused(number);
-    }
+    let n = bases.len();
+    counts_refusal(n, a.lengths(), b.lengths(), unconverted, converted)?;
+    let lengths = duplex_texts(
+        bases, a, b, mode, seq_out, a_mm_out, b_mm_out, mm_out, ml_out,
+    )?;
     write_counts(
-        positions,
-        a_annotation,
-        a_unconverted,
-        b_annotation,
-        b_unconverted,
+        n,
+        counts_of(a.annotation, a.evidence.unconverted),
+        counts_of(b.annotation, b.evidence.unconverted),
         a_unconverted_out,
         b_unconverted_out,
         unconverted_out,
     );
     write_counts(
-        positions,
-        a_annotation,
-        a_converted,
-        b_annotation,
-        b_converted,
+        n,
+        counts_of(a.annotation, a.evidence.converted),
+        counts_of(b.annotation, b.evidence.converted),
         a_converted_out,
         b_converted_out,
         converted_out,
     );
-    tags_of(texts)
+    Ok(lengths)
 }

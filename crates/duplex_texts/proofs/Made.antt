@@ -1,89 +1,91 @@
--- What follows once the strands' texts and the sequence are made in a buffer.
---     few_bytes       how long two texts are together
---     needed          how many places go to each output
---     all_put         what is written from the buffer is the definition's
+-- What follows once the sequence is restored and the strands' texts are made in buffers.
+--     made             the part of the buffer that the strands' texts are made against
+--     few_bytes        how long two texts are together
+--     needed           how many places go to each output
+--     all_put          what is written from the buffers is the definition's
 -- Assumes nothing.
-use mathlib.Core.Path.{◌≡◌, refl, sym, ap, ◌∙◌}
+use mathlib.Core.Path.{◌≡◌, sym, ap, ◌∙◌}
 use mathlib.Core.Bool.{Bool}
-use mathlib.Core.List.{List, [], ◌++◌, append-nil, append_assoc}
+use mathlib.Core.List.{List}
 use Prim.Native.Nat.{ℕ, ◌+◌, ◌≤◌}
 use native.Mathlib.Omega.{arith}
-use lib.ListN.{length, take, length-append}
-use Rattle.lists.specs.Output.{unless, put, after}
-use Rattle.lists.specs.Part.{part}
-use Rattle.lists.proofs.Between.{part_between}
-use Rattle.lists.proofs.Output.{put_fitting}
+use lib.ListN.{length, take}
+use Rattle.std.proofs.Common.{None}
+use Rattle.lists.specs.Output.{put}
+use Rattle.lists.proofs.Output.{put_fitting, front_of}
 use Rattle.methylation.specs.declared.MethylationMode.{MethylationMode}
-use Rattle.duplex_texts.specs.Texts.{Strand, TextArrays, duplex_seq, strand_mm, strand_ml, second_first, duplex_texts}
+use Rattle.mm_ml.specs.declared.TagLengths.{TagLengths}
+use Rattle.duplex_texts.specs.Texts.{Strand, TextArrays, duplex_seq, strand_mm, strand_ml, second_first, grouped, duplex_texts}
 use Rattle.duplex_texts.specs.Outputs.{text_lengths, RoomTexts, LeavesTexts}
-use Rattle.duplex_texts.specs.Parts.{MadeAs, second_at, second_ml_at, seq_at, TextsPut, needed_for}
-use Rattle.duplex_texts.specs.declared.BothLengths.{BothLengths}
+use Rattle.duplex_texts.specs.Parts.{AsLong, TextsAs, needed_for}
 use Rattle.duplex_texts.proofs.Texts.{seq_length, mm_most, ml_most, grouped_length}
 
 -- An output with room for what was copied.
 fitting : (xs out : List ℕ) {now : List ℕ} → length xs ≤ length out → now ≡ put (take (length out) xs) out → now ≡ put xs out
 fitting xs out h e = e ∙ put_fitting xs out h
 
-module _ {mode : MethylationMode} {bases : List ℕ} {a b : Strand} {before now : List ℕ} {r : BothLengths} (m : MadeAs mode bases a b before now r) where
+-- A strand's text and bytes stand at the fronts of their buffers.
+module _ {mode : MethylationMode} {seq : List ℕ} {s : Strand} {mm ml mm_now ml_now : List ℕ} {r : TagLengths} (t : TextsAs mode seq s mm ml mm_now ml_now r) where
+  pub text_front : take r.mm mm_now ≡ strand_mm mode seq s
+  text_front = front_of _ mm t.text t.mm_length
+
+  pub bytes_front : take r.ml ml_now ≡ strand_ml mode seq s
+  bytes_front = front_of _ ml t.bytes t.ml_length
+
+module _ {mode : MethylationMode} {seq : List ℕ} {a b : Strand} {a_mm a_ml b_mm b_ml a_mm_now a_ml_now b_mm_now b_ml_now : List ℕ} {ra rb : TagLengths} (of_a : TextsAs mode seq a a_mm a_ml a_mm_now a_ml_now ra) (of_b : TextsAs mode seq b b_mm b_ml b_mm_now b_ml_now rb) where
+  pub texts_fit : {xs ys : List ℕ} {n : ℕ} → xs ≡ take ra.mm a_mm_now → ys ≡ take rb.mm b_mm_now → ra.mm + rb.mm ≤ n → length xs + length ys ≤ n
+  texts_fit x y room = omega (arith, ap length (x ∙ text_front of_a), ap length (y ∙ text_front of_b), of_a.mm_length, of_b.mm_length, room)
+
+  pub bytes_fit : {xs ys : List ℕ} {n : ℕ} → xs ≡ take ra.ml a_ml_now → ys ≡ take rb.ml b_ml_now → ra.ml + rb.ml ≤ n → length xs + length ys ≤ n
+  bytes_fit x y room = omega (arith, ap length (x ∙ bytes_front of_a), ap length (y ∙ bytes_front of_b), of_a.ml_length, of_b.ml_length, room)
+
+module _ (mode : MethylationMode) (bases : List ℕ) (a b : Strand) where
   abbrev seq : List ℕ
   seq = duplex_seq bases a b
 
-  size : length seq ≡ length bases
+  pub size : length seq ≡ length bases
   size = seq_length bases a.annotation a.evidence.marks b.annotation b.evidence.marks
 
-  pub few_bytes : length bases ≤ 1024 → (r.a_mm + r.b_mm ≤ 10250) × (r.a_ml + r.b_ml ≤ 2048)
-  few_bytes few =
-      let short : length seq ≤ 1024 = omega (arith, size) in
-      (omega (arith, m.a_mm, m.b_mm, mm_most mode seq short a, mm_most mode seq short b), omega (arith, m.a_ml, m.b_ml, ml_most mode seq short a, ml_most mode seq short b))
+  pub made : (before : List ℕ) {now : List ℕ} → now ≡ put seq before → take (length bases) now ≡ seq
+  made before e = front_of seq before e (sym size)
 
-  pub needed : needed_for (length bases) r ≡ text_lengths (duplex_texts mode bases a b)
-  unfolding duplex_texts
-  needed =
-      let order = second_first a.annotation b.annotation in
-      rw
-      (m.a_mm, m.b_mm, m.a_ml, m.b_ml, grouped_length order (strand_mm mode seq a) (strand_mm mode seq b), grouped_length order (strand_ml mode seq a) (strand_ml mode seq b), size)
+  -- What the texts ask of the strands.
+  pub long_against : {restored : List ℕ} → restored ≡ seq → {s : Strand} → AsLong (length bases) s → AsLong (length restored) s
+  long_against e long = rw (e, size) long
 
-  abbrev a_mm : List ℕ
-  a_mm = strand_mm mode seq a
+  module _ {a_mm a_ml b_mm b_ml a_mm_now a_ml_now b_mm_now b_ml_now : List ℕ} {ra rb : TagLengths} (of_a : TextsAs mode seq a a_mm a_ml a_mm_now a_ml_now ra) (of_b : TextsAs mode seq b b_mm b_ml b_mm_now b_ml_now rb) where
+    pub few_bytes : length bases ≤ 1024 → (ra.mm + rb.mm ≤ 10250) × (ra.ml + rb.ml ≤ 2048)
+    few_bytes few =
+        let short : length seq ≤ 1024 = omega (arith, size) in
+        (omega (arith, of_a.mm_length, of_b.mm_length, mm_most mode seq short a, mm_most mode seq short b), omega (arith, of_a.ml_length, of_b.ml_length, ml_most mode seq short a, ml_most mode seq short b))
 
-  abbrev a_ml : List ℕ
-  a_ml = strand_ml mode seq a
+    pub needed : needed_for (length bases) ra rb ≡ text_lengths (duplex_texts mode bases a b)
+    unfolding duplex_texts
+    needed =
+        let order = second_first a.annotation b.annotation in
+        rw
+        (of_a.mm_length, of_b.mm_length, of_a.ml_length, of_b.ml_length, grouped_length order (strand_mm mode seq a) (strand_mm mode seq b), grouped_length order (strand_ml mode seq a) (strand_ml mode seq b), size)
 
-  abbrev b_mm : List ℕ
-  b_mm = strand_mm mode seq b
-
-  abbrev b_ml : List ℕ
-  b_ml = strand_ml mode seq b
-
-  -- Each of them, in the buffer.
-  first_text : part 0 r.a_mm now ≡ a_mm
-  first_text = part_between [] a_mm (a_ml ++ ((b_mm ++ b_ml) ++ seq)) before _ m.bytes (simp append_assoc) refl m.a_mm
-
-  first_array : part r.a_mm r.a_ml now ≡ a_ml
-  first_array = part_between a_mm a_ml ((b_mm ++ b_ml) ++ seq) before _ m.bytes (simp append_assoc) m.a_mm m.a_ml
-
-  second_text : part (second_at r) r.b_mm now ≡ b_mm
-  second_text = part_between (a_mm ++ a_ml) b_mm (b_ml ++ seq) before _ m.bytes (simp append_assoc) (omega (arith, length-append a_mm a_ml, m.a_mm, m.a_ml)) m.b_mm
-
-  second_array : part (second_ml_at r) r.b_ml now ≡ b_ml
-  second_array =
-      part_between ((a_mm ++ a_ml) ++ b_mm) b_ml seq before _ m.bytes (simp append_assoc) (omega (arith, length-append (a_mm ++ a_ml) b_mm, length-append a_mm a_ml, m.a_mm, m.a_ml, m.b_mm)) m.b_ml
-
-  sequence : part (seq_at r) (length bases) now ≡ seq
-  sequence =
-      part_between ((a_mm ++ a_ml) ++ (b_mm ++ b_ml)) seq [] before _ m.bytes (ap (λ (l : List ℕ). ((a_mm ++ a_ml) ++ (b_mm ++ b_ml)) ++ l) (sym (append-nil seq))) (omega (arith, length-append (a_mm ++ a_ml) (b_mm ++ b_ml), length-append a_mm a_ml, length-append b_mm b_ml, m.a_mm, m.a_ml, m.b_mm, m.b_ml)) (sym size)
-
-  pub all_put :
-      {order : Bool} {out left : TextArrays}
-      → order ≡ second_first a.annotation b.annotation
-      → RoomTexts (needed_for (length bases) r) (text_lengths out)
-      → TextsPut order (length bases) r now out left
-      → LeavesTexts 0 (duplex_texts mode bases a b) out left
-  unfolding duplex_texts after unless
-  all_put {order} {out} is room t = record {
-    seq = fitting seq out.seq (omega (arith, size, room.seq)) (rw sequence at t.seq);
-    a_mm = fitting a_mm out.a_mm (omega (arith, m.a_mm, room.a_mm)) (rw first_text at t.a_mm);
-    b_mm = fitting b_mm out.b_mm (omega (arith, m.b_mm, room.b_mm)) (rw second_text at t.b_mm);
-    mm = rw (first_text, second_text, is) at t.mm;
-    ml = rw (first_array, second_array, is) at t.ml;
-  }
+    pub all_put :
+        {order : Bool} {restored a_text b_text a_bytes b_bytes : List ℕ} {out now : TextArrays}
+        → order ≡ second_first a.annotation b.annotation
+        → restored ≡ seq
+        → RoomTexts (needed_for (length bases) ra rb) (text_lengths out)
+        → now.seq ≡ put (take (length out.seq) restored) out.seq
+        → a_text ≡ take ra.mm a_mm_now
+        → b_text ≡ take rb.mm b_mm_now
+        → a_bytes ≡ take ra.ml a_ml_now
+        → b_bytes ≡ take rb.ml b_ml_now
+        → now.a_mm ≡ put (take (length out.a_mm) a_text) out.a_mm
+        → now.b_mm ≡ put (take (length out.b_mm) b_text) out.b_mm
+        → now.mm ≡ put (grouped order a_text b_text) out.mm
+        → now.ml ≡ put (grouped order a_bytes b_bytes) out.ml
+        → LeavesTexts None (duplex_texts mode bases a b) out now
+    unfolding duplex_texts
+    all_put {out = out} is whole room seq_is a_front b_front a_ml_front b_ml_front a_mm_is b_mm_is mm_is ml_is = record {
+      seq = fitting seq out.seq (omega (arith, size, room.seq)) (rw whole at seq_is);
+      a_mm = fitting _ out.a_mm (omega (arith, of_a.mm_length, room.a_mm)) (rw (a_front, text_front of_a) at a_mm_is);
+      b_mm = fitting _ out.b_mm (omega (arith, of_b.mm_length, room.b_mm)) (rw (b_front, text_front of_b) at b_mm_is);
+      mm = rw (a_front, b_front, text_front of_a, text_front of_b, is) at mm_is;
+      ml = rw (a_ml_front, b_ml_front, bytes_front of_a, bytes_front of_b, is) at ml_is;
+    }

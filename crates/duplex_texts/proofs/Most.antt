@@ -48,7 +48,6 @@ module _ (mode : MethylationMode) (bases : List ℕ) (a b : Strand) (few : lengt
       (arith, size, grouped_length (second_first a.annotation b.annotation) (strand_ml mode seq a) (strand_ml mode seq b), ml_most mode seq short a, ml_most mode seq short b)
 
   pub texts_fit : (out : TextArrays) → RoomTexts (most_texts (length bases)) (text_lengths out) → texts_too_short (text_lengths (duplex_texts mode bases a b)) (text_lengths out) ≡ false
-  unfolding texts_too_short
   texts_fit out ample =
       let t = duplex_texts mode bases a b in
       rw

@@ -1,36 +1,38 @@
 -- The outputs that a duplex record's texts go to, and the rows that refuse a call.
-use Rattle.std.specs.Prelude.{ℕ, ◌+◌, ◌*◌, ◌≤◌, ◌≡◌, Bool, ◌&&◌, ◌||◌, List, [], ◌∷◌, ◌++◌, length, ltb}
-use Rattle.lists.specs.Output.{answer, after}
-use Rattle.refusals.specs.Refusal.{Fault, ◌if◌, too_long, ragged, refusal, TooLong, Ragged, OutputTooShort}
+use Rattle.std.specs.Prelude.{ℕ, ◌+◌, ◌*◌, ◌≤◌, ◌≡◌, Bool, ◌&&◌, ◌||◌, Option, Result, List, [], ◌∷◌, ◌++◌, length, ltb}
+use Rattle.refusals.specs.declared.Refusal.{Refusal}
+use Rattle.refusals.specs.declared.Refusal.TheVariants.{TooLong, Ragged, OutputTooShort}
+use Rattle.refusals.specs.Refusal.{Fault, ◌if◌, too_long, refused}
+use Rattle.refusals.specs.Outcome.{answer, after}
 use Rattle.methylation.specs.Methylation.{is_annotated}
-use Rattle.methylation.specs.declared.Annotation.{Annotation}
 use Rattle.methylation.specs.declared.MethylationMode.{MethylationMode}
-use Rattle.methylation.specs.Arrays.{evidence_lengths, three}
-use Rattle.methylation.specs.declared.EvidenceLengths.{EvidenceLengths}
+use Rattle.methylation.specs.Arrays.{evidence_lengths, evidence_too_long, evidence_uneven}
 use Rattle.duplex_texts.specs.Texts.{Strand, TextArrays, duplex_texts}
-use Rattle.duplex_texts.specs.declared.DuplexTexts.{DuplexTexts}
-use Rattle.duplex_texts.specs.declared.DuplexTexts.TheVariants.{Refused, Texts}
+use Rattle.duplex_texts.specs.declared.StrandLengths.{StrandLengths}
 use Rattle.duplex_texts.specs.declared.TextLengths.{TextLengths}
 
 abbrev pub text_lengths : TextArrays → TextLengths
 text_lengths t = record { seq = length t.seq; a_mm = length t.a_mm; b_mm = length t.b_mm; mm = length t.mm; ml = length t.ml }
 
--- Row 7's condition for a strand's evidence, and row 8's beside so many bases. It counts where there is an annotation.
-abbrev pub long : Annotation → EvidenceLengths → Bool
-long annotation e = is_annotated annotation && too_long (three e)
+abbrev pub strand_lengths : Strand → StrandLengths
+strand_lengths s = record { annotation = s.annotation; evidence = evidence_lengths s.evidence }
 
-abbrev pub uneven : ℕ → Annotation → EvidenceLengths → Bool
-uneven bases annotation e = is_annotated annotation && ragged (bases ∷ three e)
+-- Row 7's condition for a strand's evidence, and row 8's beside so many bases. It counts where there is an annotation.
+abbrev pub long : StrandLengths → Bool
+long s = is_annotated s.annotation && evidence_too_long s.evidence
+
+abbrev pub uneven : ℕ → StrandLengths → Bool
+uneven bases s = is_annotated s.annotation && evidence_uneven bases s.evidence
 
 -- By the lengths of the sequence and of each strand's evidence.
-unfoldable pub given_faults : ℕ → Annotation → EvidenceLengths → Annotation → EvidenceLengths → List Fault
-given_faults bases a a_lengths b b_lengths =
-    (TooLong if (too_long (bases ∷ []) || (long a a_lengths || long b b_lengths)))
-    ∷ (Ragged if (uneven bases a a_lengths || uneven bases b b_lengths))
+abbrev pub given_faults : ℕ → StrandLengths → StrandLengths → List Fault
+given_faults bases a b =
+    (TooLong if (too_long (bases ∷ []) || (long a || long b)))
+    ∷ (Ragged if (uneven bases a || uneven bases b))
     ∷ []
 
 abbrev pub given_of : List ℕ → Strand → Strand → List Fault
-given_of bases a b = given_faults (length bases) a.annotation (evidence_lengths a.evidence) b.annotation (evidence_lengths b.evidence)
+given_of bases a b = given_faults (length bases) (strand_lengths a) (strand_lengths b)
 
 -- Each output has room for what goes there.
 pub record RoomTexts (needed out : TextLengths) : Type 0 where
@@ -41,7 +43,7 @@ pub record RoomTexts (needed out : TextLengths) : Type 0 where
   pub ml : needed.ml ≤ out.ml
 
 -- Some output is shorter than what goes there.
-unfoldable pub texts_too_short : TextLengths → TextLengths → Bool
+abbrev pub texts_too_short : TextLengths → TextLengths → Bool
 texts_too_short needed out =
     ltb out.seq needed.seq
     || (ltb out.a_mm needed.a_mm
@@ -52,27 +54,23 @@ texts_too_short needed out =
 abbrev pub room_faults : TextLengths → TextLengths → List Fault
 room_faults needed out = (OutputTooShort if texts_too_short needed out) ∷ []
 
-unfoldable pub texts_faults : MethylationMode → List ℕ → Strand → Strand → TextLengths → List Fault
+abbrev pub texts_faults : MethylationMode → List ℕ → Strand → Strand → TextLengths → List Fault
 texts_faults mode bases a b out = given_of bases a b ++ room_faults (text_lengths (duplex_texts mode bases a b)) out
 
-abbrev pub texts_refused : MethylationMode → List ℕ → Strand → Strand → TextArrays → ℕ
-texts_refused mode bases a b before = refusal (texts_faults mode bases a b (text_lengths before))
+abbrev pub texts_refused : MethylationMode → List ℕ → Strand → Strand → TextArrays → Option Refusal
+texts_refused mode bases a b before = refused (texts_faults mode bases a b (text_lengths before))
 
--- The answer: how many bytes go to each output.
-abbrev pub written : TextLengths → DuplexTexts
-written n = Texts n.seq n.a_mm n.b_mm n.mm n.ml
+-- What a call leaves in its outputs, where it was refused or else writes these texts.
+pub record LeavesTexts (refusal : Option Refusal) (texts before now : TextArrays) : Type 0 where
+  pub seq : now.seq ≡ after refusal texts.seq before.seq
+  pub a_mm : now.a_mm ≡ after refusal texts.a_mm before.a_mm
+  pub b_mm : now.b_mm ≡ after refusal texts.b_mm before.b_mm
+  pub mm : now.mm ≡ after refusal texts.mm before.mm
+  pub ml : now.ml ≡ after refusal texts.ml before.ml
 
--- What a call leaves in its outputs, where it was refused with a number (0: not refused) or else writes these texts.
-pub record LeavesTexts (number : ℕ) (texts before now : TextArrays) : Type 0 where
-  pub seq : now.seq ≡ after number texts.seq before.seq
-  pub a_mm : now.a_mm ≡ after number texts.a_mm before.a_mm
-  pub b_mm : now.b_mm ≡ after number texts.b_mm before.b_mm
-  pub mm : now.mm ≡ after number texts.mm before.mm
-  pub ml : now.ml ≡ after number texts.ml before.ml
-
--- What a call of `duplex_texts` answers and leaves in its outputs.
-pub record DuplexTextsAs (mode : MethylationMode) (bases : List ℕ) (a b : Strand) (before now : TextArrays) (r : DuplexTexts) : Type 0 where
-  pub answered : r ≡ answer Refused (texts_refused mode bases a b before) (written (text_lengths (duplex_texts mode bases a b)))
+-- What a call of `duplex_texts` answers, how many bytes go to each output, and leaves in its outputs.
+pub record DuplexTextsAs (mode : MethylationMode) (bases : List ℕ) (a b : Strand) (before now : TextArrays) (r : Result TextLengths Refusal) : Type 0 where
+  pub answered : r ≡ answer (texts_refused mode bases a b before) (text_lengths (duplex_texts mode bases a b))
   pub outputs : LeavesTexts (texts_refused mode bases a b before) (duplex_texts mode bases a b) before now
 
 -- How many places each output needs at most for a sequence of n bases.

@@ -1,28 +1,31 @@
 -- The sequence, MM and ML of a duplex record, document 01: first each strand's annotation restores the sequence, then each strand's
 -- texts are taken against it.
-use Rattle.std.specs.Prelude.{ℕ, Bool, true, false, cond, List, [], ◌++◌}
-use Rattle.methylation.specs.Arrays.{EvidenceArrays, evidence_arrays}
-use Rattle.methylation.specs.declared.Annotation.{Annotation}
-use Rattle.methylation.specs.declared.Annotation.TheVariants.{Absent, Of}
+use Rattle.std.specs.Prelude.{None, Some, Option, ℕ, Bool, true, false, cond, List, [], ◌++◌}
+use Rattle.methylation.specs.Arrays.{EvidenceArrays, evidence_arrays, evidence_in}
 use Rattle.methylation.specs.declared.ConversionPattern.{ConversionPattern}
 use Rattle.methylation.specs.declared.ConversionPattern.TheVariants.{CToT, GToA}
 use Rattle.methylation.specs.declared.MethylationMode.{MethylationMode}
 use Rattle.methylation_restore.specs.Restore.{strand_bases}
 use Rattle.mm_ml.specs.Tags.{Annotated, annotated, mm_text, ml_array}
+use Rattle.duplex_texts.specs.declared.StrandSlices.{StrandSlices}
 
 -- A strand's annotation with its evidence. Without an annotation the arrays are not looked at.
 pub record Strand : Type 0 where
-  pub annotation : Annotation
+  pub annotation : Option ConversionPattern
   pub evidence : EvidenceArrays
 
-abbrev pub strand : Annotation → List ℕ → List ℕ → List ℕ → Strand
+abbrev pub strand : Option ConversionPattern → List ℕ → List ℕ → List ℕ → Strand
 strand annotation marks unconverted converted = record {
   annotation = annotation;
   evidence = evidence_arrays marks unconverted converted;
 }
 
+-- That of lent slices.
+abbrev pub strand_in : StrandSlices → Strand
+strand_in s = record { annotation = s.annotation; evidence = evidence_in s.evidence }
+
 -- The record's sequence: restored by the first strand's annotation, and then by the second's.
-unfoldable pub restored_seq : List ℕ → Annotation → List ℕ → Annotation → List ℕ → List ℕ
+unfoldable pub restored_seq : List ℕ → Option ConversionPattern → List ℕ → Option ConversionPattern → List ℕ → List ℕ
 restored_seq bases a a_marks b b_marks = strand_bases b b_marks (strand_bases a a_marks bases)
 
 abbrev pub duplex_seq : List ℕ → Strand → Strand → List ℕ
@@ -33,9 +36,9 @@ abbrev pub against : List ℕ → Strand → ConversionPattern → Annotated
 against seq s pattern = annotated seq pattern s.evidence.marks s.evidence.unconverted s.evidence.converted
 
 -- What there is by the pattern of an annotation: nothing without one.
-abbrev pub by_pattern : Annotation → (ConversionPattern → List ℕ) → List ℕ
-by_pattern Absent f = []
-by_pattern (Of pattern) f = f pattern
+abbrev pub by_pattern : Option ConversionPattern → (ConversionPattern → List ℕ) → List ℕ
+by_pattern None f = []
+by_pattern (Some pattern) f = f pattern
 
 -- A strand's MM text against a sequence.
 unfoldable pub strand_mm : MethylationMode → List ℕ → Strand → List ℕ
@@ -49,12 +52,12 @@ strand_ml mode seq s =
 
 -- The order of the strands' groups: C to T first, otherwise that of the strands. So the second strand's comes first where it
 -- alone is of pattern C to T.
-abbrev pub second_first : Annotation → Annotation → Bool
-second_first (Of GToA) (Of CToT) = true
-second_first (Of GToA) (Of GToA) = false
-second_first (Of GToA) Absent = false
-second_first (Of CToT) b = false
-second_first Absent b = false
+abbrev pub second_first : Option ConversionPattern → Option ConversionPattern → Bool
+second_first (Some GToA) (Some CToT) = true
+second_first (Some GToA) (Some GToA) = false
+second_first (Some GToA) None = false
+second_first (Some CToT) b = false
+second_first None b = false
 
 -- What the first strand has and what the second has, in the order of the groups.
 unfoldable pub grouped : Bool → List ℕ → List ℕ → List ℕ

@@ -1,11 +1,14 @@
 -- An annotation's evidence as arrays, document 01: per position an informative mark (0 no, any other byte yes) and two counts.
-use Rattle.std.specs.Prelude.{ℕ, ◌≡◌, Bool, not, cond, List, [], ◌∷◌, eqb, length}
-use Rattle.lists.specs.Output.{put, after}
+use Rattle.std.specs.Prelude.{ℕ, ◌≡◌, Bool, not, cond, Option, List, [], ◌∷◌, eqb, length}
+use Rattle.lists.specs.Output.{put}
 use Rattle.lists.specs.Part.{only_if}
 use Rattle.lists.specs.Table.{tabulate}
+use Rattle.refusals.specs.declared.Refusal.{Refusal}
 use Rattle.refusals.specs.Refusal.{too_long, ragged, too_short}
+use Rattle.refusals.specs.Outcome.{after}
 use Rattle.methylation.specs.declared.Evidence.{Evidence}
 use Rattle.methylation.specs.declared.EvidenceLengths.{EvidenceLengths}
+use Rattle.methylation.specs.declared.EvidenceSlices.{EvidenceSlices}
 
 -- The arrays of an annotation, or those lent for one.
 pub record EvidenceArrays : Type 0 where
@@ -15,6 +18,10 @@ pub record EvidenceArrays : Type 0 where
 
 abbrev pub evidence_arrays : List ℕ → List ℕ → List ℕ → EvidenceArrays
 evidence_arrays m u c = record { marks = m; unconverted = u; converted = c }
+
+-- Those that are lent.
+abbrev pub evidence_in : EvidenceSlices → EvidenceArrays
+evidence_in e = evidence_arrays e.marks.now e.unconverted.now e.converted.now
 
 -- Evidence by position, of n positions.
 abbrev pub evidence_table : ℕ → (ℕ → Evidence) → EvidenceArrays
@@ -40,18 +47,18 @@ abbrev pub three : EvidenceLengths → List ℕ
 three e = e.marks ∷ e.unconverted ∷ e.converted ∷ []
 
 -- Row 7's condition for an annotation.
-unfoldable pub evidence_too_long : EvidenceLengths → Bool
+abbrev pub evidence_too_long : EvidenceLengths → Bool
 evidence_too_long e = too_long (three e)
 
 -- Row 8's, for the arrays among themselves, and beside n bases.
-unfoldable pub evidence_ragged : EvidenceLengths → Bool
+abbrev pub evidence_ragged : EvidenceLengths → Bool
 evidence_ragged e = ragged (three e)
 
-unfoldable pub evidence_uneven : ℕ → EvidenceLengths → Bool
+abbrev pub evidence_uneven : ℕ → EvidenceLengths → Bool
 evidence_uneven n e = ragged (n ∷ three e)
 
 -- Row 12's, for outputs to which n positions go.
-unfoldable pub evidence_too_short : ℕ → EvidenceLengths → Bool
+abbrev pub evidence_too_short : ℕ → EvidenceLengths → Bool
 evidence_too_short n out = too_short n (three out)
 
 -- Every array has its own written to its front.
@@ -60,8 +67,8 @@ pub record PutsEvidence (written before now : EvidenceArrays) : Type 0 where
   pub unconverted : now.unconverted ≡ put written.unconverted before.unconverted
   pub converted : now.converted ≡ put written.converted before.converted
 
--- What a call leaves in the arrays lent for evidence, where it was refused with a number (0: not refused) or else writes these.
-pub record LeavesEvidence (number : ℕ) (written before now : EvidenceArrays) : Type 0 where
-  pub marks : now.marks ≡ after number written.marks before.marks
-  pub unconverted : now.unconverted ≡ after number written.unconverted before.unconverted
-  pub converted : now.converted ≡ after number written.converted before.converted
+-- What a call leaves in the arrays lent for evidence, where it was refused or else writes these.
+pub record LeavesEvidence (refused : Option Refusal) (written before now : EvidenceArrays) : Type 0 where
+  pub marks : now.marks ≡ after refused written.marks before.marks
+  pub unconverted : now.unconverted ≡ after refused written.unconverted before.unconverted
+  pub converted : now.converted ≡ after refused written.converted before.converted

@@ -1,2 +1,3 @@
 pub mod Arrays
 pub mod Methylation
+pub mod Choices

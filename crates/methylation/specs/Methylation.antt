@@ -1,9 +1,7 @@
 -- Chemistries, conversion patterns and the CpG context.
-use Rattle.std.specs.Prelude.{ℕ, ◌+◌, ◌-◌, Bool, true, false, cond, ◌&&◌, List, ltb, length, get_or}
+use Rattle.std.specs.Prelude.{Option, is_some, ℕ, ◌+◌, ◌-◌, Bool, true, false, cond, ◌&&◌, List, ltb, length, get_or}
 use Rattle.dna.specs.Dna.{letter_a, letter_c, letter_g, letter_t, same_letter}
 use Rattle.flags.specs.Flags.{last_segment, is_set}
-use Rattle.methylation.specs.declared.Annotation.{Annotation}
-use Rattle.methylation.specs.declared.Annotation.TheVariants.{Absent, Of}
 use Rattle.methylation.specs.declared.ConversionPattern.{ConversionPattern}
 use Rattle.methylation.specs.declared.ConversionPattern.TheVariants.{CToT, GToA}
 use Rattle.methylation.specs.declared.Evidence.{Evidence}
@@ -17,7 +15,7 @@ is_enabled EmSeq = true
 is_enabled Taps = true
 
 -- A read without flag 0x80 is of pattern C to T, others G to A.
-unfoldable pub pattern_of_flags : ℕ → ConversionPattern
+abbrev pub pattern_of_flags : ℕ → ConversionPattern
 pattern_of_flags flags = cond (is_set flags last_segment) GToA CToT
 
 abbrev pub pattern_bases : ConversionPattern → PatternBases
@@ -25,16 +23,15 @@ pattern_bases CToT = record { reference = letter_c; unconverted = letter_c; conv
 pattern_bases GToA = record { reference = letter_g; unconverted = letter_g; converted = letter_a }
 
 -- A strand has an annotation.
-abbrev pub is_annotated : Annotation → Bool
-is_annotated Absent = false
-is_annotated (Of pattern) = true
+abbrev pub is_annotated : Option ConversionPattern → Bool
+is_annotated annotation = is_some annotation
 
 -- A C and a G, in any case.
-unfoldable pub is_cg : ℕ → ℕ → Bool
+abbrev pub is_cg : ℕ → ℕ → Bool
 is_cg first second = same_letter first letter_c && same_letter second letter_g
 
 -- Of the top strand the C, of the bottom strand the G of a C followed by a G.
-unfoldable pub is_cpg_context : List ℕ → ℕ → Bool → Bool
+abbrev pub is_cpg_context : List ℕ → ℕ → Bool → Bool
 is_cpg_context ref pos top =
     cond top
     (ltb (pos + 1) (length ref) && is_cg (get_or ref pos 0) (get_or ref (pos + 1) 0))
@@ -45,5 +42,5 @@ abbrev pub clear : Evidence
 clear = record { mark = 0; unconverted = 0; converted = 0 }
 
 -- A record's evidence: marked, with its counts, or clear.
-unfoldable pub evidence_if : Bool → ℕ → ℕ → Evidence
+abbrev pub evidence_if : Bool → ℕ → ℕ → Evidence
 evidence_if kept unconverted converted = cond kept (record { mark = 1; unconverted = unconverted; converted = converted }) clear

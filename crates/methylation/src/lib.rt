@@ -3,15 +3,16 @@
 #![tactic(auto)]
 
 ghost use Rattle.std.specs.Prelude.{◌≡◌};
-ghost use Rattle.methylation.specs.Arrays.{evidence_arrays, evidence_places, evidence_lengths, evidence_too_long, evidence_ragged, evidence_uneven, evidence_too_short};
+ghost use Rattle.methylation.specs.Choices.{pattern_in, mode_in};
+ghost use Rattle.methylation.specs.Arrays.{evidence_in, evidence_places, evidence_lengths, evidence_too_long, evidence_ragged, evidence_uneven, evidence_too_short};
 ghost use Rattle.methylation.specs.Methylation.{is_enabled, pattern_of_flags, pattern_bases, is_annotated, is_cg, is_cpg_context, evidence_if};
 
 use dna::eq_ignore_ascii_case;
 use flags::{LAST_SEGMENT, is_set};
-use refusals::MAX_POSITIONS;
+use refusals::{MAX_POSITIONS, Refusal};
 
 // The chemistry, which decides whether a converted base is methylated.
-#[derive(Clone, Copy)]
+#[derive(Clone, Copy, Debug, PartialEq, Eq)]
 pub enum MethylationMode {
     // Conversions are errors, and there are no tags.
     Disabled,
@@ -34,7 +35,7 @@ impl MethylationMode {
 }
 
 // How a read shows conversions, in the orientation in which it was sequenced.
-#[derive(Clone, Copy)]
+#[derive(Clone, Copy, Debug, PartialEq, Eq)]
 pub enum ConversionPattern {
     CToT,
     GToA,
@@ -78,11 +79,35 @@ impl ConversionPattern {
     }
 }
 
-// The pattern of a strand's annotation. Without one, the evidence arrays are not looked at.
-#[derive(Clone, Copy)]
-pub enum Annotation {
-    Absent,
-    Of(ConversionPattern),
+// As a number, 1 is C to T and 2 G to A.
+impl TryFrom<u8> for ConversionPattern {
+    type Error = Refusal;
+
+    ghost try_from_gives = { λ number answer. answer ≡ pattern_in number };
+
+    fn try_from(number: u8) -> Result<Self, Refusal> {
+        match number {
+            1 => Ok(ConversionPattern::CToT),
+            2 => Ok(ConversionPattern::GToA),
+            _ => Err(Refusal::Broken),
+        }
+    }
+}
+
+// As a number, 0 is Disabled, 1 EM-Seq and 2 TAPs.
+impl TryFrom<u8> for MethylationMode {
+    type Error = Refusal;
+
+    ghost try_from_gives = { λ number answer. answer ≡ mode_in number };
+
+    fn try_from(number: u8) -> Result<Self, Refusal> {
+        match number {
+            0 => Ok(MethylationMode::Disabled),
+            1 => Ok(MethylationMode::EmSeq),
+            2 => Ok(MethylationMode::Taps),
+            _ => Err(Refusal::Broken),
+        }
+    }
 }
 
 // A strand's evidence at one position.
@@ -93,21 +118,20 @@ pub struct Evidence {
     pub converted: u32,
 }
 
+// The evidence of an annotation as lent slices: a mark and two counts for each position.
+#[derive(Clone, Copy)]
+pub struct EvidenceSlices<'a> {
+    pub marks: &'a [u8],
+    pub unconverted: &'a [u32],
+    pub converted: &'a [u32],
+}
+
 // How long each array of an annotation's evidence is.
 #[derive(Clone, Copy)]
 pub struct EvidenceLengths {
     pub marks: usize,
     pub unconverted: usize,
     pub converted: usize,
-}
-
-pub fn is_annotated(annotation: Annotation) -> bool
-    ensures { result ≡ is_annotated annotation }
-{
-    match annotation {
-        Annotation::Absent => false,
-        Annotation::Of(_) => true,
-    }
 }
 
 fn is_cg(first: u8, second: u8) -> bool
@@ -156,19 +180,22 @@ pub fn evidence_if(kept: bool, unconverted: u32, converted: u32) -> Evidence
 }
 
 // How many places of evidence are written, of n positions: all, or none.
+// No array is looked at: the flag is all that there is of the annotation.
 pub fn evidence_places(there: bool, n: usize) -> usize
     ensures { result ≡ evidence_places there n }
 {
     if there { n } else { 0 }
 }
 
-pub fn evidence_lengths(marks: &[u8], unconverted: &[u32], converted: &[u32]) -> EvidenceLengths
-    ensures { result ≡ evidence_lengths (evidence_arrays marks.now unconverted.now converted.now) }
-{
-    EvidenceLengths {
-        marks: marks.len(),
-        unconverted: unconverted.len(),
-        converted: converted.len(),
+impl EvidenceSlices<'_> {
+    pub fn lengths(self) -> EvidenceLengths
+        ensures { result ≡ evidence_lengths (evidence_in self.entry) }
+    {
+        EvidenceLengths {
+            marks: self.marks.len(),
+            unconverted: self.unconverted.len(),
+            converted: self.converted.len(),
+        }
     }
 }
 

@@ -6,37 +6,21 @@ ghost use Rattle.std.specs.Prelude.{◌≡◌};
 ghost use Rattle.methylation_calls.specs.Calls.{is_tracked, is_called, methylated, ml_of};
 
 use dna::eq_ignore_ascii_case;
-use methylation::{ConversionPattern, MethylationMode};
+use methylation::{ConversionPattern, Evidence, MethylationMode};
 
 // Whether a base is the letter that the pattern tracks, in any case.
 pub fn is_tracked(pattern: ConversionPattern, base: u8) -> bool
     ensures { result ≡ is_tracked pattern base }
 {
-    let bases = pattern.bases();
-    eq_ignore_ascii_case(base, bases.reference)
+    eq_ignore_ascii_case(base, pattern.bases().reference)
 }
 
 // Whether a base is called: tracked, informative, and with counts above 0.
-pub fn is_called(
-    pattern: ConversionPattern,
-    base: u8,
-    mark: u8,
-    unconverted: u32,
-    converted: u32,
-) -> bool
-    ensures { result ≡ is_called pattern base mark unconverted converted }
+pub fn is_called(pattern: ConversionPattern, base: u8, evidence: Evidence) -> bool
+    ensures { result ≡ is_called pattern base evidence.mark evidence.unconverted evidence.converted }
 {
-    is_tracked(pattern, base) & ((mark != 0) & (0 < unconverted as u64 + converted as u64))
-}
-
-fn methylated_of(mode: MethylationMode, unconverted: u32, converted: u32) -> u32
-    ensures { result ≡ methylated mode unconverted converted }
-{
-    match mode {
-        MethylationMode::Disabled => 0,
-        MethylationMode::EmSeq => unconverted,
-        MethylationMode::Taps => converted,
-    }
+    let counts = evidence.unconverted as u64 + evidence.converted as u64;
+    is_tracked(pattern, base) & ((evidence.mark != 0) & (0 < counts))
 }
 
 // The ML byte: 256 times the methylated count over both, rounded down, at most 255. Without counts, and in mode Disabled, 0.
@@ -47,9 +31,11 @@ pub fn ml_of(mode: MethylationMode, unconverted: u32, converted: u32) -> u8
     if total == 0 {
         return 0;
     }
-    let part = 256 * methylated_of(mode, unconverted, converted) as u64 / total;
-    if 255 < part {
-        return 255;
-    }
-    part as u8
+    let methylated = match mode {
+        MethylationMode::Disabled => 0,
+        MethylationMode::EmSeq => unconverted,
+        MethylationMode::Taps => converted,
+    };
+    let parts = 256 * methylated as u64 / total;
+    parts.min(255) as u8
 }

@@ -1,17 +1,16 @@
 -- The loop that clears evidence in place: after i turns the first i positions of each array are gated, the others as they were.
---     begin_gate, next_gate, done_gate     the invariant's beginning, a turn that reads what stands there, and the end
+--     begin_gate, next_gate     the invariant's beginning, and a turn that reads what stands there
 -- Assumes nothing.
 use mathlib.Core.Path.{◌≡◌}
-use Prim.Native.Nat.{ℕ, ◌+◌, ◌≤◌, ◌<◌}
+use Prim.Native.Nat.{ℕ, ◌+◌, ◌<◌}
 use native.Mathlib.Omega.{arith}
 use lib.ListN.{length, get_or, set}
-use Rattle.lists.specs.Output.{unless, after}
 use Rattle.lists.proofs.Written.{unwritten}
 use Rattle.methylation.specs.Methylation.{evidence_if}
 use Rattle.methylation.specs.declared.Evidence.{Evidence}
-use Rattle.methylation.specs.Arrays.{EvidenceArrays, evidence_arrays, informative, LeavesEvidence}
-use Rattle.methylation.proofs.Filling.{FillingEvidence, begin_evidence, next_evidence, done_evidence}
-use Rattle.methylation_evidence.specs.Gate.{gated_at, gated}
+use Rattle.methylation.specs.Arrays.{EvidenceArrays, evidence_arrays, informative}
+use Rattle.methylation.proofs.Filling.{FillingEvidence, begin_evidence, next_evidence}
+use Rattle.methylation_evidence.specs.Gate.{gated_at}
 
 pub begin_gate : (e : EvidenceArrays) → length e.unconverted ≡ length e.marks → length e.converted ≡ length e.marks → FillingEvidence (length e.marks) (gated_at e) e 0 e
 begin_gate e u c = begin_evidence (omega arith) (omega arith) (omega arith)
@@ -26,9 +25,3 @@ pub next_gate :
 next_gate {e} {now} {n} {i} {v} g h is =
     let here : v ≡ gated_at e i = rw (unwritten 0 g.marks, unwritten 0 g.unconverted, unwritten 0 g.converted) at is in
     next_evidence g h here
-
-pub done_gate : {n i : ℕ} {e now : EvidenceArrays} → FillingEvidence n (gated_at e) e i now → n ≤ i → LeavesEvidence 0 (gated n e) e now
-unfolding after unless
-done_gate g h =
-    let p = done_evidence g h in
-    record { marks = p.marks; unconverted = p.unconverted; converted = p.converted }

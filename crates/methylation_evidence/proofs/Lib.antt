@@ -1,3 +1,2 @@
 pub mod Counts
 pub mod Gating
-pub mod Truncating

@@ -1,13 +1,13 @@
 -- Evidence as a single-strand record holds it, document 01: cleared (mark 0, both counts 0) where not informative.
-use Rattle.std.specs.Prelude.{ℕ, ◌≡◌, List, [], ◌∷◌, length, get_or}
-use Rattle.lists.specs.Output.{answer}
-use Rattle.refusals.specs.Refusal.{Fault, ◌if◌, refusal, TooLong, Ragged}
+use Rattle.std.specs.Prelude.{ℕ, ◌≡◌, Option, Result, List, [], ◌∷◌, length, get_or}
+use Rattle.refusals.specs.declared.Refusal.{Refusal}
+use Rattle.refusals.specs.declared.Refusal.TheVariants.{TooLong, Ragged}
+use Rattle.refusals.specs.Refusal.{Fault, ◌if◌, refused}
+use Rattle.refusals.specs.Outcome.{answer}
 use Rattle.methylation.specs.Methylation.{evidence_if}
 use Rattle.methylation.specs.declared.Evidence.{Evidence}
 use Rattle.methylation.specs.Arrays.{EvidenceArrays, evidence_table, evidence_lengths, informative, evidence_too_long, evidence_ragged, LeavesEvidence}
 use Rattle.methylation.specs.declared.EvidenceLengths.{EvidenceLengths}
-use Rattle.methylation_evidence.specs.declared.Positions.{Positions}
-use Rattle.methylation_evidence.specs.declared.Positions.TheVariants.{Refused, Written}
 
 -- At one position: kept, with mark 1, where the mark says informative.
 abbrev pub gated_at : EvidenceArrays → ℕ → Evidence
@@ -18,16 +18,16 @@ abbrev pub gated : ℕ → EvidenceArrays → EvidenceArrays
 gated n e = evidence_table n (gated_at e)
 
 -- By the lengths of the arrays.
-unfoldable pub gate_faults : EvidenceLengths → List Fault
+abbrev pub gate_faults : EvidenceLengths → List Fault
 gate_faults e =
     (TooLong if evidence_too_long e)
     ∷ (Ragged if evidence_ragged e)
     ∷ []
 
-abbrev pub gate_refused : EvidenceArrays → ℕ
-gate_refused e = refusal (gate_faults (evidence_lengths e))
+abbrev pub gate_refused : EvidenceArrays → Option Refusal
+gate_refused e = refused (gate_faults (evidence_lengths e))
 
 -- What a call of `gate_to_informative` answers and leaves in the arrays.
-pub record GatedAs (before now : EvidenceArrays) (r : Positions) : Type 0 where
-  pub answered : r ≡ answer Refused (gate_refused before) (Written (length before.marks))
+pub record GatedAs (before now : EvidenceArrays) (r : Result ℕ Refusal) : Type 0 where
+  pub answered : r ≡ answer (gate_refused before) (length before.marks)
   pub outputs : LeavesEvidence (gate_refused before) (gated (length before.marks) before) before now

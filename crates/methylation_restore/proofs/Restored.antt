@@ -6,36 +6,18 @@
 --     strand_room                      what holds where a strand is not refused
 -- Assumes nothing.
 use mathlib.Core.Path.{◌≡◌, ap}
-use mathlib.Core.Bool.{Bool, true, false, not, ◌&&◌}
 use mathlib.Core.List.{List}
-use Prim.Native.Nat.{ℕ, ◌≤◌}
-use borrow.Author.Tests.{ltb-false, eqb-true, not-false}
-use lib.Dec.{eqb}
+use Prim.Native.Nat.{ℕ}
 use lib.ListN.{length, get_or}
 use native.Mathlib.Omega.{arith}
 use Rattle.lists.specs.Output.{put}
 use Rattle.lists.proofs.Output.{put_over}
 use Rattle.lists.proofs.Table.{length_tabulate, tabulate_equal}
 use Rattle.lists.proofs.Written.{get_d_put}
-use Rattle.dna.specs.Dna.{same_letter}
-use Rattle.refusals.specs.Refusal.{refusal, Ragged, OutputTooShort}
-use Rattle.refusals.proofs.Refusal.{passed}
-use Rattle.refusals.proofs.Condition.{nor_where}
-use Rattle.methylation.specs.declared.Annotation.{Annotation}
-use Rattle.methylation.specs.declared.Annotation.TheVariants.{Absent, Of}
 use Rattle.methylation.specs.declared.ConversionPattern.{ConversionPattern}
 use Rattle.methylation.specs.declared.PatternBases.{PatternBases}
-use Rattle.methylation.specs.Arrays.{informative}
-use Rattle.methylation_restore.specs.Restore.{restored_base, restored_at, restored_to, restored, strand_bases, strand_faults}
-
-module _ (letters : PatternBases) (mark base : ℕ) {same : Bool} (is : same ≡ same_letter base letters.converted) where
-  pub restored_here : (informative mark && same) ≡ true → letters.unconverted ≡ restored_base letters mark base
-  unfolding restored_base
-  restored_here h = rw (← is, h)
-
-  pub kept_here : (informative mark && same) ≡ false → base ≡ restored_base letters mark base
-  unfolding restored_base
-  kept_here h = rw (← is, h)
+use Rattle.methylation_restore.specs.Restore.{restored_base, restored_at, restored_to, restored, strand_bases}
+use Rattle.std.proofs.Common.{None, Some, Option}
 
 module _ (letters : PatternBases) (marks bases : List ℕ) where
   pub restored_length : (n : ℕ) → length (restored_to n letters marks bases) ≡ n
@@ -56,22 +38,10 @@ module _ (letters : PatternBases) (marks bases : List ℕ) where
       rw (e, restored_front out) (put_over (restored_to (length bases) letters marks bases) bases out (omega (arith, restored_length (length bases))))
 
 module _ (marks bases : List ℕ) where
-  pub strand_absent : {annotation : Annotation} → annotation ≡ Absent → bases ≡ strand_bases annotation marks bases
+  pub strand_absent : {annotation : Option ConversionPattern} → annotation ≡ None → bases ≡ strand_bases annotation marks bases
   unfolding strand_bases
   strand_absent e = rw e
 
-  pub strand_of_lem : {annotation : Annotation} {pattern : ConversionPattern} → annotation ≡ Of pattern → restored pattern marks bases ≡ strand_bases annotation marks bases
+  pub strand_of_lem : {annotation : Option ConversionPattern} {pattern : ConversionPattern} → annotation ≡ Some pattern → restored pattern marks bases ≡ strand_bases annotation marks bases
   unfolding strand_bases
   strand_of_lem e = rw e
-
--- Not refused, the output has room, and an annotation has as many marks as there are bases.
-pub strand_room :
-    (annotated : Bool) (bases marks out : ℕ) {number : ℕ}
-    → number ≡ refusal (strand_faults annotated bases marks out)
-    → number ≡ 0
-    → (bases ≤ out) × (annotated ≡ true → marks ≡ bases)
-unfolding strand_faults
-strand_room annotated bases marks out n z = (
-  ltb-false _ _ (passed OutputTooShort _ n z).0,
-  λ here. eqb-true _ _ (not-false _ ((nor_where false annotated (not (eqb marks bases)) (passed Ragged _ n z).0).1 here)),
-)

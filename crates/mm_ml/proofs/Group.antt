@@ -21,8 +21,10 @@ use Rattle.methylation.specs.declared.ConversionPattern.TheVariants.{CToT, GToA}
 use Rattle.methylation.specs.declared.MethylationMode.{MethylationMode}
 use Rattle.methylation_calls.specs.Calls.{is_tracked}
 use Rattle.mm_ml.specs.Text.{prefix_of, group_text}
-use Rattle.mm_ml.specs.Tags.{Annotated, called_at, skips, all_calls, all_listed, all_text, all_bytes, calls, ml_byte, if_called, mm_text, ml_array, tags_if_called}
-use Rattle.mm_ml.specs.declared.MmMl.TheVariants.{Tags}
+use Rattle.mm_ml.specs.Tags.{Annotated, called_at, skips, all_calls, all_listed, all_text, all_bytes, calls, ml_byte, if_called, mm_text, ml_array, tags_if_called, tag_lengths}
+use Rattle.mm_ml.specs.declared.TagLengths.{TagLengths}
+use Rattle.std.proofs.Common.{Option, Some, None}
+use Rattle.std.proofs.lemmas.Option.{none-some}
 use Rattle.mm_ml.proofs.Walk.{listed_within, calls_within}
 
 pub prefix_length : (pattern : ConversionPattern) → length (prefix_of pattern) ≡ 4
@@ -109,13 +111,66 @@ module _ (mode : MethylationMode) (s : Annotated) where
   unfolding ml_array
   array_length = length-map (calls mode s) (ml_byte mode s)
 
-pub tags_some : (ps : List ℕ) (mm ml : ℕ) → (length ps ≡ 0 → ⊥) → Tags mm ml ≡ tags_if_called ps mm ml
-tags_some [] mm ml h = absurd (h refl)
-tags_some (p ∷ ps) mm ml h = refl
-
 pub none_of : (ps : List ℕ) → length ps ≡ 0 → ps ≡ []
 none_of [] e = refl
 none_of (p ∷ ps) e = absurd (omega arith)
+
+-- What the answer says of the outputs.
+module _ (mode : MethylationMode) (s : Annotated) where
+  pub untold_off : is_enabled mode ≡ false → None ≡ tag_lengths mode s
+  untold_off e = rw (calls_disabled mode s e)
+
+  pub untold_none : is_enabled mode ≡ true → length (all_calls s) ≡ 0 → None ≡ tag_lengths mode s
+  untold_none e z = rw (calls_enabled mode s e ∙ none_of (all_calls s) z)
+
+  pub told_some :
+      {mm ml : ℕ}
+      → is_enabled mode ≡ true
+      → (ml ≡ 0 → ⊥)
+      → mm ≡ length (all_listed s)
+      → ml ≡ length (all_calls s)
+      → Some (record { mm = mm + 5; ml = ml }) ≡ tag_lengths mode s
+  told_some {mm} {ml} e h mm_is ml_is = go (calls mode s) refl
+    where
+      some : length (calls mode s) ≡ 0 → ⊥
+      some z = h (ml_is ∙ sym (ap length (calls_enabled mode s e)) ∙ z)
+
+      go : (ps : List ℕ) → calls mode s ≡ ps → Some (record { mm = mm + 5; ml = ml }) ≡ tags_if_called ps (length (mm_text mode s)) (length (ml_array mode s))
+      go [] g = absurd (some (ap length g))
+      go (p ∷ ps) g =
+          rw (text_some mode s some, group_length s.pattern (skips s (all_calls s)), mm_is, array_length mode s, calls_enabled mode s e, ml_is)
+
+  -- Without a tag nothing goes to an output.
+  pub untold : None ≡ tag_lengths mode s → (mm_text mode s ≡ []) × (ml_array mode s ≡ [])
+  untold e =
+      let none = go (calls mode s) (length (mm_text mode s)) (length (ml_array mode s)) e in
+      (text_none mode s none, array_none mode s none)
+    where
+      go : (ps : List ℕ) (mm ml : ℕ) → None ≡ tags_if_called ps mm ml → ps ≡ []
+      go [] mm ml g = refl
+      go (p ∷ ps) mm ml g = absurd (none-some _ g)
+
+  -- With one, the group of all that is called, of the lengths that it tells.
+  pub told :
+      (n : TagLengths)
+      → Some n ≡ tag_lengths mode s
+      → (mm_text mode s ≡ all_text s) × (ml_array mode s ≡ all_bytes mode s) × (n.mm ≡ length (all_text s)) × (n.ml ≡ length (all_calls s))
+  told n e =
+      let (some, mm_is, ml_is) = go (calls mode s) (length (mm_text mode s)) (length (ml_array mode s)) e in
+      let text = text_some mode s some in
+      (text, sym (array_some mode s some), mm_is ∙ ap length text, ml_is ∙ array_length mode s ∙ ap length (calls_some mode s some))
+    where
+      mm_in : Option TagLengths → ℕ
+      mm_in None = 0
+      mm_in (Some lengths) = lengths.mm
+
+      ml_in : Option TagLengths → ℕ
+      ml_in None = 0
+      ml_in (Some lengths) = lengths.ml
+
+      go : (ps : List ℕ) (mm ml : ℕ) → Some n ≡ tags_if_called ps mm ml → (length ps ≡ 0 → ⊥) × (n.mm ≡ mm) × (n.ml ≡ ml)
+      go [] mm ml g = absurd (none-some _ (sym g))
+      go (p ∷ ps) mm ml g = (λ z. omega arith, ap mm_in g, ap ml_in g)
 
 -- For callers: how long an output can need to be.
 module _ (s : Annotated) (few : length s.bases ≤ 1024) where

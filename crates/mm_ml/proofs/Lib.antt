@@ -2,4 +2,3 @@ pub mod Walk
 pub mod Strand
 pub mod Group
 pub mod Refused
-pub mod Alone

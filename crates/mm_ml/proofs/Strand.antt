@@ -2,6 +2,7 @@
 --     Listing      counts the listed skip counts and their length
 --     Writing      writes them behind what stands before place 4
 --     Scoring      writes the ML bytes
+--     one_more, one_at_most             whether a position is called, as a number
 --     with_comma, after_comma           a comma and a count, written at a place
 -- Assumes nothing.
 use mathlib.Core.Path.{◌≡◌, refl, sym, ap, ◌∙◌}
@@ -9,6 +10,8 @@ use mathlib.Core.Bool.{Bool, true, false, cond}
 use mathlib.Core.List.{List, [], ◌∷◌, ◌++◌, append-nil, append_assoc, map, map-append}
 use Prim.Native.Nat.{ℕ, ◌+◌, ◌-◌, ◌*◌, ◌≤◌, ◌<◌}
 use native.Mathlib.Omega.{arith}
+use mir.Val.{bool_byte}
+use native.Mathlib.Nat.{add-zero}
 use lib.ListN.{length, take, set, get_or, length-append, length-map, length-set}
 use lib.Seq.{length-take-le, append_snoc}
 use borrow.Rule.Slice.PartMut.{put_mid, mid_of}
@@ -43,6 +46,15 @@ module _ (out : List ℕ) (at : ℕ) (text : List ℕ) (room : at + length (44 �
   pub text_length : length (put (take at out ++ (44 ∷ text)) out) ≡ length out
   text_length = length_put (take at out ++ (44 ∷ text)) out (omega (arith, length-append (take at out) (44 ∷ text), before_place))
 
+-- A test as a number.
+pub one_more : (b : Bool) (n : ℕ) → n + bool_byte b ≡ cond b (n + 1) n
+one_more true n = refl
+one_more false n = add-zero n
+
+pub one_at_most : (b : Bool) {n : ℕ} → n ≡ bool_byte b → (m : ℕ) → (n ≤ 1) × (n * m ≤ m)
+one_at_most true e m = rw e (omega arith, omega arith)
+one_at_most false e m = rw e (omega arith, omega arith)
+
 module _ (s : Annotated) where
   abbrev pub Walked : ℕ → ℕ → Type 0
   Walked i skip = Passing (is_tracked s.pattern) s.bases (called_at s) i skip
@@ -54,15 +66,6 @@ module _ (s : Annotated) where
   -- The count of skipped letters after position i, which is called or not.
   abbrev pub skipped : ℕ → Bool → ℕ → ℕ
   skipped i b skip = cond b 0 (cond (is_tracked s.pattern (get_or s.bases i 0)) (skip + 1) skip)
-
-  -- As the code counts it.
-  pub skipped_is :
-      (i skip : ℕ) {skip' : ℕ} {called tracked b : Bool}
-      → skip' ≡ cond called 0 (cond tracked (skip + 1) skip)
-      → called ≡ b
-      → tracked ≡ is_tracked s.pattern (get_or s.bases i 0)
-      → skip' ≡ skipped i b skip
-  skipped_is i skip e c t = e ∙ rw (c, t)
 
   pub walk_next : {i skip : ℕ} (b : Bool) → Walked i skip → i < length s.bases → called_at s i ≡ b → Walked (i + 1) (skipped i b skip)
   walk_next b w h e = next (is_tracked s.pattern) s.bases (called_at s) b w h e
@@ -107,17 +110,22 @@ module _ (s : Annotated) where
     count = l.count ∙ sym (ap length (called_next (is_tracked s.pattern) s.bases (called_at s) i false e ∙ append-nil (calls_below s i)));
   }
 
-  -- The same of what a turn leaves.
+  -- The same of what a turn leaves: n is 1 where the position is called, else 0.
   pub turn_listing :
-      {i skip mm ml skip' mm' ml' : ℕ} (b : Bool)
+      {i skip mm ml skip' n digits : ℕ} (b : Bool)
       → Listing i skip mm ml
       → i < length s.bases
       → called_at s i ≡ b
+      → n ≡ bool_byte b
+      → digits ≡ length (decimal skip)
       → skip' ≡ skipped i b skip
-      → mm' ≡ cond b (mm + (1 + length (decimal skip))) mm
-      → ml' ≡ cond b (ml + 1) ml
-      → Listing (i + 1) skip' mm' ml'
-  turn_listing b l h e skip_is mm_is ml_is = rw (skip_is, mm_is, ml_is) (next_listing b l h e)
+      → Listing (i + 1) skip' (mm + n * (1 + digits)) (ml + n)
+  turn_listing {skip} true l h e n_is digits_is skip_is =
+      let once : 1 * (1 + length (decimal skip)) ≡ 1 + length (decimal skip) = omega arith in
+      rw (n_is, digits_is, skip_is, once) (next_listing true l h e)
+  turn_listing {mm} {digits} false l h e n_is digits_is skip_is =
+      let none : mm + 0 * (1 + digits) ≡ mm = omega arith in
+      rw (n_is, skip_is, none, add-zero) (next_listing false l h e)
 
   -- How many bytes they have at most.
   pub few_bytes : {i skip mm ml : ℕ} → Evident s → Listing i skip mm ml → (mm ≤ 5 * i) × (ml ≤ i)
@@ -125,6 +133,22 @@ module _ (s : Annotated) where
     omega (arith, l.text, listed_within (is_tracked s.pattern) s.bases (called_at s) ev.few i l.walked.within),
     omega (arith, l.count, calls_within (is_tracked s.pattern) s.bases (called_at s) i),
   )
+
+  -- What a turn adds, and what it leaves, stays small.
+  pub small_turn :
+      {i skip mm ml n digits : ℕ} (b : Bool)
+      → Evident s
+      → Listing i skip mm ml
+      → i < length s.bases
+      → n ≡ bool_byte b
+      → digits ≡ length (decimal skip)
+      → (1 + digits ≤ 5) × (n * (1 + digits) ≤ 5) × (mm + n * (1 + digits) ≤ 5125) × (ml + n ≤ 1025)
+  small_turn {i} {skip} {n = n} {digits} b ev l h n_is digits_is =
+      let short = short_skip ev l.walked h in
+      let one = one_at_most b n_is (1 + digits) in
+      let few = few_bytes ev l in
+      let text : 1 + digits ≤ 5 = omega (arith, short.1, digits_is) in
+      (text, omega (arith, one.1, text), omega (arith, one.1, text, few.0, ev.few, h), omega (arith, one.0, few.1, ev.few, h))
 
   -- When all positions are behind.
   pub done_listing : {i skip mm ml : ℕ} → Listing i skip mm ml → length s.bases ≤ i → (mm ≡ length (all_listed s)) × (ml ≡ length (all_calls s))

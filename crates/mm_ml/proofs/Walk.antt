@@ -17,7 +17,7 @@ use lib.Seq.{slice, slice_empty}
 use Rattle.lists.specs.Count.{count_if, count_of}
 use Rattle.lists.specs.Part.{only_if}
 use Rattle.lists.proofs.Count.{count_snoc}
-use Rattle.lists.proofs.Part.{slice_next}
+use Rattle.lists.proofs.Parts.{slice_next}
 use Rattle.decimal.specs.Decimal.{decimal, listed}
 use Rattle.decimal.proofs.Decimal.{few_digits, listed_append}
 use Rattle.mm_ml.specs.Text.{places_below, letters, skips_from}

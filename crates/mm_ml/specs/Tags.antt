@@ -1,19 +1,18 @@
 -- The MM and ML tags of one strand, document 01: nothing called, or mode Disabled, no tag.
-use Rattle.std.specs.Prelude.{ℕ, ◌≤◌, ◌≡◌, Bool, ◌||◌, List, [], ◌∷◌, ◌++◌, map, length, get_or}
-use Rattle.lists.specs.Output.{answer, after}
+use Rattle.std.specs.Prelude.{ℕ, ◌≤◌, ◌≡◌, Bool, ◌||◌, Option, Some, None, Result, List, [], ◌∷◌, ◌++◌, map, length, get_or}
 use Rattle.lists.specs.Part.{only_if}
-use Rattle.refusals.specs.Refusal.{Fault, ◌if◌, too_long, ragged, too_short, refusal, TooLong, Ragged, OutputTooShort}
+use Rattle.refusals.specs.declared.Refusal.{Refusal}
+use Rattle.refusals.specs.declared.Refusal.TheVariants.{TooLong, Ragged, OutputTooShort}
+use Rattle.refusals.specs.Refusal.{Fault, ◌if◌, too_long, ragged, too_short, refused}
+use Rattle.refusals.specs.Outcome.{answer, after}
 use Rattle.decimal.specs.Decimal.{listed}
 use Rattle.methylation.specs.Methylation.{is_enabled}
 use Rattle.methylation.specs.declared.ConversionPattern.{ConversionPattern}
 use Rattle.methylation.specs.declared.MethylationMode.{MethylationMode}
 use Rattle.methylation_calls.specs.Calls.{is_tracked, is_called, ml_of}
 use Rattle.mm_ml.specs.Text.{places_below, skips_from, group_text}
-use Rattle.mm_ml.specs.declared.Mm.{Mm}
-use Rattle.mm_ml.specs.declared.Mm.TheVariants.{Refused as Refused-mm, NoTag as NoTag-mm, Tag}
-use Rattle.mm_ml.specs.declared.MmMl.{MmMl}
-use Rattle.mm_ml.specs.declared.MmMl.TheVariants.{Refused, NoTag, Tags}
-use Rattle.mm_ml.specs.declared.Lengths.{Lengths}
+use Rattle.mm_ml.specs.declared.AnnotatedBases.{AnnotatedBases}
+use Rattle.mm_ml.specs.declared.TagLengths.{TagLengths}
 
 -- The sequence and a strand's annotation.
 pub record Annotated : Type 0 where
@@ -31,6 +30,10 @@ annotated bases pattern marks unconverted converted = record {
   unconverted = unconverted;
   converted = converted;
 }
+
+-- Those that are lent.
+abbrev pub annotated_in : AnnotatedBases → Annotated
+annotated_in s = annotated s.bases.now s.pattern s.evidence.marks.now s.evidence.unconverted.now s.evidence.converted.now
 
 unfoldable pub called_at : Annotated → ℕ → Bool
 called_at s i = is_called s.pattern (get_or s.bases i 0) (get_or s.marks i 0) (get_or s.unconverted i 0) (get_or s.converted i 0)
@@ -83,7 +86,7 @@ pub record Evident (s : Annotated) : Type 0 where
   pub converted : length s.converted ≡ length s.bases
 
 -- The length of the listed skip counts, and how many there are.
-pub record Counted (s : Annotated) (r : Lengths) : Type 0 where
+pub record Counted (s : Annotated) (r : TagLengths) : Type 0 where
   pub text : r.mm ≡ length (all_listed s)
   pub count : r.ml ≡ length (all_calls s)
 
@@ -101,34 +104,31 @@ faults_of s = strand_faults (length s.bases) (length s.marks) (length s.unconver
 abbrev pub room_faults : ℕ → ℕ → ℕ → ℕ → List Fault
 room_faults mm_needed mm ml_needed ml = (OutputTooShort if (too_short mm_needed (mm ∷ []) || too_short ml_needed (ml ∷ []))) ∷ []
 
-unfoldable pub tags_refused : MethylationMode → Annotated → List ℕ → List ℕ → ℕ
-tags_refused mode s mm ml = refusal (faults_of s ++ room_faults (length (mm_text mode s)) (length mm) (length (ml_array mode s)) (length ml))
+abbrev pub tags_refused : MethylationMode → Annotated → List ℕ → List ℕ → Option Refusal
+tags_refused mode s mm ml = refused (faults_of s ++ room_faults (length (mm_text mode s)) (length mm) (length (ml_array mode s)) (length ml))
 
 -- The written lengths, where something is called.
-abbrev pub tags_if_called : List ℕ → ℕ → ℕ → MmMl
-tags_if_called [] mm ml = NoTag
-tags_if_called (p ∷ ps) mm ml = Tags mm ml
+abbrev pub tags_if_called : List ℕ → ℕ → ℕ → Option TagLengths
+tags_if_called [] mm ml = None
+tags_if_called (p ∷ ps) mm ml = Some (record { mm = mm; ml = ml })
+
+abbrev pub tag_lengths : MethylationMode → Annotated → Option TagLengths
+tag_lengths mode s = tags_if_called (calls mode s) (length (mm_text mode s)) (length (ml_array mode s))
 
 -- What a call of `build_mm_ml_tags` answers and leaves in its two outputs.
-pub record TaggedAs (mode : MethylationMode) (s : Annotated) (mm ml mm_now ml_now : List ℕ) (r : MmMl) : Type 0 where
-  pub answered : r ≡ answer Refused (tags_refused mode s mm ml) (tags_if_called (calls mode s) (length (mm_text mode s)) (length (ml_array mode s)))
+pub record TaggedAs (mode : MethylationMode) (s : Annotated) (mm ml mm_now ml_now : List ℕ) (r : Result (Option TagLengths) Refusal) : Type 0 where
+  pub answered : r ≡ answer (tags_refused mode s mm ml) (tag_lengths mode s)
   pub mm_text_is : mm_now ≡ after (tags_refused mode s mm ml) (mm_text mode s) mm
   pub ml_array_is : ml_now ≡ after (tags_refused mode s mm ml) (ml_array mode s) ml
 
 -- The same of `build_mm_tag_no_ml`, which has one output: nothing goes to a second one.
-unfoldable pub tag_refused : MethylationMode → Annotated → List ℕ → ℕ
-tag_refused mode s mm = refusal (faults_of s ++ room_faults (length (mm_text mode s)) (length mm) 0 0)
+abbrev pub tag_refused : MethylationMode → Annotated → List ℕ → Option Refusal
+tag_refused mode s mm = refused (faults_of s ++ room_faults (length (mm_text mode s)) (length mm) 0 0)
 
--- An answer of the one as that of the other.
-abbrev pub mm_of : MmMl → Mm
-mm_of (Refused number) = Refused-mm number
-mm_of NoTag = NoTag-mm
-mm_of (Tags mm ml) = Tag mm
+abbrev pub tag_if_called : List ℕ → ℕ → Option ℕ
+tag_if_called [] mm = None
+tag_if_called (p ∷ ps) mm = Some mm
 
-abbrev pub tag_if_called : List ℕ → ℕ → Mm
-tag_if_called [] mm = NoTag-mm
-tag_if_called (p ∷ ps) mm = Tag mm
-
-pub record MmTaggedAs (mode : MethylationMode) (s : Annotated) (mm mm_now : List ℕ) (r : Mm) : Type 0 where
-  pub answered : r ≡ answer Refused-mm (tag_refused mode s mm) (tag_if_called (calls mode s) (length (mm_text mode s)))
+pub record MmTaggedAs (mode : MethylationMode) (s : Annotated) (mm mm_now : List ℕ) (r : Result (Option ℕ) Refusal) : Type 0 where
+  pub answered : r ≡ answer (tag_refused mode s mm) (tag_if_called (calls mode s) (length (mm_text mode s)))
   pub mm_text_is : mm_now ≡ after (tag_refused mode s mm) (mm_text mode s) mm

@@ -1,27 +1,24 @@
 // The entry points over the methylation calls: numbers and native slices, choices and answers as numbers. A number that stands for
-// nothing is refused as 13, before all else. Uses refusals, methylation, replies, methylation_evidence, methylation_restore, mm_ml,
-// duplex_tags and rust_strand.
+// nothing is refused as 13, before all else. Uses refusals, methylation, replies, methylation_restore, mm_ml, duplex_texts and
+// duplex_tags.
 #![tactic(auto)]
 
-ghost use Rattle.std.specs.Prelude.{◌≡◌, ◌||◌};
-ghost use Rattle.replies.specs.Choices.{annotation_of, pattern_of, mode_of, wrong_annotation, wrong_pattern, wrong_mode};
-ghost use Rattle.replies.specs.Replies.{not_counted, RepliedAs};
-ghost use Rattle.rust_strand.specs.Answers.{positions_count};
+ghost use Rattle.std.specs.Prelude.{◌≡◌, ◌||◌, Err};
+ghost use Rattle.refusals.specs.declared.Refusal.TheVariants.{Broken};
+ghost use Rattle.methylation.specs.Choices.{annotation_of, pattern_of, mode_of, wrong_annotation, wrong_pattern, wrong_mode};
+ghost use Rattle.replies.specs.Replies.{not_counted, count_reply, RepliedAs};
 ghost use Rattle.mm_ml.specs.Tags.{annotated, MmTaggedAs};
 ghost use Rattle.duplex_texts.specs.Texts.{strand, text_arrays};
 ghost use Rattle.duplex_tags.specs.Tags.{count_arrays};
-ghost use Rattle.duplex_tags.specs.declared.DuplexMethylationTags.TheVariants.{Refused};
 ghost use Rattle.rust_methylation.specs.Entries.{tags_reply, mm_ml_reply, mm_reply, duplex_tags_reply, RestoredAs, StrandBasesAs, tag_arrays, duplex_arrays, TagsAs, DuplexTagsAs};
 
-use duplex_tags::{DuplexMethylationTags, duplex_methylation_tags};
-use methylation_evidence::Positions;
+use duplex_tags::duplex_methylation_tags;
+use duplex_texts::{StrandSlices, TextLengths};
+use methylation::{ConversionPattern, EvidenceSlices, MethylationMode};
 use methylation_restore::{methylation_strand_bases, restore_unconverted_bases};
-use mm_ml::{Mm, MmMl, build_mm_ml_tags, build_mm_tag_no_ml};
-use refusals::BROKEN;
-use replies::{
-    Count, annotation_of, mode_of, pattern_of, wrong_annotation, wrong_mode, wrong_pattern,
-};
-use rust_strand::positions_count;
+use mm_ml::{AnnotatedBases, TagLengths, build_mm_ml_tags, build_mm_tag_no_ml};
+use refusals::Refusal;
+use replies::{Count, annotation_in};
 
 // Of a strand's tags: `refused` is the refusal's number; where it is 0, `tagged` is 1 where there is a tag, of such lengths, else 0.
 #[repr(C)]
@@ -45,83 +42,83 @@ pub struct DuplexTagsReply {
     pub ml: usize,
 }
 
-fn mm_ml_reply(r: MmMl) -> TagsReply
-    ensures { result ≡ mm_ml_reply r }
-{
-    match r {
-        MmMl::Refused(number) => TagsReply {
-            refused: number,
-            tagged: 0,
-            mm: 0,
-            ml: 0,
-        },
-        MmMl::NoTag => TagsReply {
-            refused: 0,
-            tagged: 0,
-            mm: 0,
-            ml: 0,
-        },
-        MmMl::Tags { mm, ml } => TagsReply {
-            refused: 0,
-            tagged: 1,
-            mm,
-            ml,
-        },
+impl From<Result<Option<TagLengths>, Refusal>> for TagsReply {
+    ghost from_gives = { λ tags reply. reply ≡ mm_ml_reply tags };
+
+    fn from(tags: Result<Option<TagLengths>, Refusal>) -> TagsReply {
+        match tags {
+            Ok(Some(TagLengths { mm, ml })) => TagsReply {
+                refused: 0,
+                tagged: 1,
+                mm,
+                ml,
+            },
+            Ok(None) => TagsReply {
+                refused: 0,
+                tagged: 0,
+                mm: 0,
+                ml: 0,
+            },
+            Err(refusal) => TagsReply {
+                refused: refusal.number(),
+                tagged: 0,
+                mm: 0,
+                ml: 0,
+            },
+        }
     }
 }
 
-fn mm_reply(r: Mm) -> TagsReply
-    ensures { result ≡ mm_reply r }
-{
-    match r {
-        Mm::Refused(number) => TagsReply {
-            refused: number,
-            tagged: 0,
-            mm: 0,
-            ml: 0,
-        },
-        Mm::NoTag => TagsReply {
-            refused: 0,
-            tagged: 0,
-            mm: 0,
-            ml: 0,
-        },
-        Mm::Tag(mm) => TagsReply {
-            refused: 0,
-            tagged: 1,
-            mm,
-            ml: 0,
-        },
+// Of the MM text alone.
+impl From<Result<Option<usize>, Refusal>> for TagsReply {
+    ghost from_gives = { λ text reply. reply ≡ mm_reply text };
+
+    fn from(text: Result<Option<usize>, Refusal>) -> TagsReply {
+        match text {
+            Ok(Some(mm)) => TagsReply {
+                refused: 0,
+                tagged: 1,
+                mm,
+                ml: 0,
+            },
+            Ok(None) => TagsReply {
+                refused: 0,
+                tagged: 0,
+                mm: 0,
+                ml: 0,
+            },
+            Err(refusal) => TagsReply {
+                refused: refusal.number(),
+                tagged: 0,
+                mm: 0,
+                ml: 0,
+            },
+        }
     }
 }
 
-// The answer to a call for a record's tags, as numbers.
-pub fn duplex_tags_reply(r: DuplexMethylationTags) -> DuplexTagsReply
-    ensures { result ≡ duplex_tags_reply r }
-{
-    match r {
-        DuplexMethylationTags::Refused(number) => DuplexTagsReply {
-            refused: number,
-            positions: 0,
-            a_mm: 0,
-            b_mm: 0,
-            mm: 0,
-            ml: 0,
-        },
-        DuplexMethylationTags::Tags {
-            positions,
-            a_mm,
-            b_mm,
-            mm,
-            ml,
-        } => DuplexTagsReply {
-            refused: 0,
-            positions,
-            a_mm,
-            b_mm,
-            mm,
-            ml,
-        },
+impl From<Result<TextLengths, Refusal>> for DuplexTagsReply {
+    ghost from_gives = { λ tags reply. reply ≡ duplex_tags_reply tags };
+
+    fn from(tags: Result<TextLengths, Refusal>) -> DuplexTagsReply {
+        match tags {
+            Ok(lengths) => DuplexTagsReply {
+                refused: 0,
+                positions: lengths.seq,
+                a_mm: lengths.a_mm,
+                b_mm: lengths.b_mm,
+                mm: lengths.mm,
+                ml: lengths.ml,
+            },
+            Err(refusal) => DuplexTagsReply {
+                refused: refusal.number(),
+                positions: 0,
+                a_mm: 0,
+                b_mm: 0,
+                mm: 0,
+                ml: 0,
+            },
+        }
     }
 }
 
@@ -132,14 +129,13 @@ pub extern "C" fn gedrashiw_restore_unconverted_bases(
     pattern: u8,
     marks: &[u8],
 ) -> Count
-    ensures { RepliedAs (wrong_pattern pattern) (not_counted 13) positions_count (RestoredAs (pattern_of pattern) marks.now)
+    ensures { RepliedAs (wrong_pattern pattern) (not_counted 13) count_reply (RestoredAs (pattern_of pattern) marks.now)
         consensus_bases.old consensus_bases.new result }
 {
-    if wrong_pattern(pattern) {
-        return positions_count(Positions::Refused(BROKEN));
-    }
-    let told = pattern_of(pattern);
-    positions_count(restore_unconverted_bases(consensus_bases, told, marks))
+    let Ok(pattern) = ConversionPattern::try_from(pattern) else {
+        return Count::from(Err::<usize, Refusal>(Refusal::Broken));
+    };
+    Count::from(restore_unconverted_bases(consensus_bases, pattern, marks))
 }
 
 // A strand's bases as its tag shows them: restored by its annotation; without one, as they are.
@@ -150,14 +146,13 @@ pub extern "C" fn gedrashiw_methylation_strand_bases(
     marks: &[u8],
     out: &mut [u8],
 ) -> Count
-    ensures { RepliedAs (wrong_annotation annotation) (not_counted 13) positions_count (StrandBasesAs (annotation_of annotation) bases.now marks.now)
+    ensures { RepliedAs (wrong_annotation annotation) (not_counted 13) count_reply (StrandBasesAs (annotation_of annotation) bases.now marks.now)
         out.old out.new result }
 {
-    if wrong_annotation(annotation) {
-        return positions_count(Positions::Refused(BROKEN));
-    }
-    let told = annotation_of(annotation);
-    positions_count(methylation_strand_bases(bases, told, marks, out))
+    let Ok(annotation) = annotation_in(annotation) else {
+        return Count::from(Err::<usize, Refusal>(Refusal::Broken));
+    };
+    Count::from(methylation_strand_bases(bases, annotation, marks, out))
 }
 
 // A strand's MM and ML.
@@ -177,21 +172,22 @@ pub extern "C" fn gedrashiw_build_mm_ml_tags(
         (tag_arrays mm.old ml.old) (tag_arrays mm.new ml.new)
         result }
 {
-    if wrong_pattern(pattern) | wrong_mode(mode) {
-        return mm_ml_reply(MmMl::Refused(BROKEN));
-    }
-    let told = pattern_of(pattern);
-    let chosen = mode_of(mode);
-    mm_ml_reply(build_mm_ml_tags(
-        consensus_bases,
-        told,
-        marks,
-        unconverted,
-        converted,
-        chosen,
-        mm,
-        ml,
-    ))
+    let Ok(pattern) = ConversionPattern::try_from(pattern) else {
+        return TagsReply::from(Err::<Option<TagLengths>, Refusal>(Refusal::Broken));
+    };
+    let Ok(mode) = MethylationMode::try_from(mode) else {
+        return TagsReply::from(Err::<Option<TagLengths>, Refusal>(Refusal::Broken));
+    };
+    let strand = AnnotatedBases {
+        bases: consensus_bases,
+        pattern,
+        evidence: EvidenceSlices {
+            marks,
+            unconverted,
+            converted,
+        },
+    };
+    TagsReply::from(build_mm_ml_tags(strand, mode, mm, ml))
 }
 
 // A strand's MM, without an ML.
@@ -210,20 +206,22 @@ pub extern "C" fn gedrashiw_build_mm_tag_no_ml(
         mm.old mm.new
         result }
 {
-    if wrong_pattern(pattern) | wrong_mode(mode) {
-        return mm_reply(Mm::Refused(BROKEN));
-    }
-    let told = pattern_of(pattern);
-    let chosen = mode_of(mode);
-    mm_reply(build_mm_tag_no_ml(
-        consensus_bases,
-        told,
-        marks,
-        unconverted,
-        converted,
-        chosen,
-        mm,
-    ))
+    let Ok(pattern) = ConversionPattern::try_from(pattern) else {
+        return TagsReply::from(Err::<Option<usize>, Refusal>(Refusal::Broken));
+    };
+    let Ok(mode) = MethylationMode::try_from(mode) else {
+        return TagsReply::from(Err::<Option<usize>, Refusal>(Refusal::Broken));
+    };
+    let strand = AnnotatedBases {
+        bases: consensus_bases,
+        pattern,
+        evidence: EvidenceSlices {
+            marks,
+            unconverted,
+            converted,
+        },
+    };
+    TagsReply::from(build_mm_tag_no_ml(strand, mode, mm))
 }
 
 // A record's sequence, its MM and ML, each strand's MM, and the counts as tags hold them.
@@ -251,7 +249,7 @@ pub extern "C" fn gedrashiw_duplex_methylation_tags(
     unconverted_out: &mut [u16],
     converted_out: &mut [u16],
 ) -> DuplexTagsReply
-    ensures { RepliedAs ((wrong_annotation a_annotation || wrong_annotation b_annotation) || wrong_mode mode) (duplex_tags_reply (Refused 13)) duplex_tags_reply
+    ensures { RepliedAs ((wrong_annotation a_annotation || wrong_annotation b_annotation) || wrong_mode mode) (duplex_tags_reply (Err Broken)) duplex_tags_reply
         (DuplexTagsAs (mode_of mode) bases.now
         (strand (annotation_of a_annotation) a_marks.now a_unconverted.now a_converted.now)
         (strand (annotation_of b_annotation) b_marks.now b_unconverted.now b_converted.now))
@@ -263,23 +261,36 @@ pub extern "C" fn gedrashiw_duplex_methylation_tags(
         (count_arrays a_unconverted_out.new a_converted_out.new b_unconverted_out.new b_converted_out.new unconverted_out.new converted_out.new))
         result }
 {
-    if wrong_annotation(a_annotation) | wrong_annotation(b_annotation) | wrong_mode(mode) {
-        return duplex_tags_reply(DuplexMethylationTags::Refused(BROKEN));
-    }
-    let a_told = annotation_of(a_annotation);
-    let b_told = annotation_of(b_annotation);
-    let chosen = mode_of(mode);
-    duplex_tags_reply(duplex_methylation_tags(
+    let Ok(a_annotation) = annotation_in(a_annotation) else {
+        return DuplexTagsReply::from(Err::<TextLengths, Refusal>(Refusal::Broken));
+    };
+    let Ok(b_annotation) = annotation_in(b_annotation) else {
+        return DuplexTagsReply::from(Err::<TextLengths, Refusal>(Refusal::Broken));
+    };
+    let Ok(mode) = MethylationMode::try_from(mode) else {
+        return DuplexTagsReply::from(Err::<TextLengths, Refusal>(Refusal::Broken));
+    };
+    let a = StrandSlices {
+        annotation: a_annotation,
+        evidence: EvidenceSlices {
+            marks: a_marks,
+            unconverted: a_unconverted,
+            converted: a_converted,
+        },
+    };
+    let b = StrandSlices {
+        annotation: b_annotation,
+        evidence: EvidenceSlices {
+            marks: b_marks,
+            unconverted: b_unconverted,
+            converted: b_converted,
+        },
+    };
+    DuplexTagsReply::from(duplex_methylation_tags(
         bases,
-        a_told,
-        a_marks,
-        a_unconverted,
-        a_converted,
-        b_told,
-        b_marks,
-        b_unconverted,
-        b_converted,
-        chosen,
+        a,
+        b,
+        mode,
         seq_out,
         a_mm_out,
         b_mm_out,

@@ -2,16 +2,17 @@
 --     Adding                     the invariant of a loop that adds one more where a position is met: start, few, further, all_added
 --     fewer_places               positions that are not met need no store
 --     one_read_more              one more read, of counts that are a table
+--     filled                     places that are filled with one value
 -- Assumes nothing.
 use mathlib.Core.Path.{◌≡◌, refl, sym, ap, ◌∙◌}
 use mathlib.Core.Bool.{Bool, true, false, cond}
-use mathlib.Core.List.{List}
+use mathlib.Core.List.{List, ◌++◌}
 use Prim.Native.Nat.{ℕ, ◌+◌, ◌<◌, ◌≤◌}
 use native.Mathlib.Omega.{arith}
 use borrow.Author.Tests.{ltb-true, ltb-false}
 use lib.Dec.{ltb}
-use lib.ListN.{length, get_or, set}
-use lib.Seq.{ext_get_or}
+use lib.ListN.{length, take, drop, get_or, set, replicate, length-replicate}
+use lib.Seq.{ext_get_or, length-take-le}
 use Rattle.lists.specs.Output.{put}
 use Rattle.lists.specs.Table.{tabulate}
 use Rattle.lists.proofs.Output.{length_put, Filling, begin, same, next, done}
@@ -110,3 +111,8 @@ one_read_more n met c out {xs} h e = same_tables 0 n n f (more met c) xs out (om
         by_place i n
         (λ l. table_front 0 n f xs i l ∙ ap (λ (v : ℕ). cond (met i) (v + 1) v) (was i l) ∙ sym (table_front 0 n (more met c) out i l))
         (λ o. table_behind 0 n f xs i o ∙ ap (λ (l : List ℕ). get_or l i 0) e ∙ table_behind 0 n c out i o ∙ sym (table_behind 0 n (more met c) out i o))
+
+-- The first n places, each filled with v.
+pub filled : (n v : ℕ) (out : List ℕ) {Y : List ℕ} → n ≤ length out → Y ≡ replicate (length (take n out)) v → Y ++ drop n out ≡ put (replicate n v) out
+unfolding put
+filled n v out h e = rw (e, length-take-le n out h, length-replicate n v)

@@ -1,17 +1,21 @@
 -- The methylation evidence of a simplex consensus, from its source reads and the reference: at each position a mark and two counts.
-use Rattle.std.specs.Prelude.{ℕ, ◌+◌, ◌<◌, ◌≡◌, Bool, cond, not, ◌&&◌, ◌||◌, List, [], ◌∷◌, eqb, length, get_or, replicate}
+use Rattle.std.specs.Prelude.{ℕ, ◌+◌, ◌<◌, ◌≡◌, Bool, cond, not, ◌&&◌, ◌||◌, Option, Result, List, [], ◌∷◌, eqb, length, get_or}
 use Rattle.lists.specs.Count.{count_of}
-use Rattle.lists.specs.Output.{answer, put}
+use Rattle.lists.specs.Output.{put}
 use Rattle.lists.specs.Table.{tabulate}
-use Rattle.refusals.specs.Refusal.{Fault, ◌if◌, too_long, too_many, too_short, refusal, Broken, TooLong, TooManyReads, PartOutside, OutputTooShort}
+use Rattle.refusals.specs.declared.Refusal.{Refusal}
+use Rattle.refusals.specs.declared.Refusal.TheVariants.{Broken, TooLong, TooManyReads, PartOutside, OutputTooShort}
+use Rattle.refusals.specs.Refusal.{Fault, ◌if◌, too_long, too_many, too_short, refused}
+use Rattle.refusals.specs.Outcome.{answer}
 use Rattle.dna.specs.Dna.{upper}
 use Rattle.methylation.specs.Arrays.{EvidenceArrays, evidence_arrays, evidence_lengths, three, LeavesEvidence}
 use Rattle.methylation.specs.Methylation.{pattern_bases}
 use Rattle.methylation.specs.declared.ConversionPattern.{ConversionPattern}
-use Rattle.replies.specs.Replies.{not_counted, counted}
+use Rattle.replies.specs.Replies.{count_reply}
 use Rattle.replies.specs.declared.Count.{Count}
 use Rattle.source_reads.specs.Reads.{reaches, any_leaves}
 use Rattle.source_reads.specs.declared.SourceRead.{SourceRead}
+use Rattle.simplex_methylation.specs.declared.Common.{Common}
 
 -- What all reads have in common: the pattern, the bytes of their bases, the reference bases by position, the bytes of their
 -- alignment marks, and whether every position is counted.
@@ -24,6 +28,10 @@ pub record Setting : Type 0 where
 
 abbrev pub setting : ConversionPattern → List ℕ → List ℕ → List ℕ → Bool → Setting
 setting pattern bytes reference aligned everywhere = record { pattern = pattern; bytes = bytes; reference = reference; aligned = aligned; everywhere = everywhere }
+
+-- That of the values lent for it.
+abbrev pub setting_in : Common → Setting
+setting_in c = setting c.pattern c.bytes.now c.reference.now c.aligned.now c.everywhere
 
 -- A base is a capital letter, or its lower case.
 unfoldable pub is_letter : ℕ → ℕ → Bool
@@ -69,7 +77,7 @@ abbrev pub Below : ℕ → ℕ → List ℕ → Type 0
 Below limit n so_far = (i : ℕ) → i < n → get_or so_far i 0 < limit
 
 -- Whether the pattern stands for nothing, the length of the consensus, the number of reads, whether a read's part leaves its bytes, and the lengths of the outputs.
-unfoldable pub simplex_faults : Bool → ℕ → ℕ → Bool → List ℕ → List Fault
+abbrev pub simplex_faults : Bool → ℕ → ℕ → Bool → List ℕ → List Fault
 simplex_faults wrong n reads leaving outs =
     (Broken if wrong)
     ∷ (TooLong if too_long (n ∷ []))
@@ -84,25 +92,21 @@ evidence s reads n =
     let letters = pattern_bases s.pattern in
     evidence_arrays (marks_of letters.reference s.reference n) (counts_of s letters.unconverted reads n) (counts_of s letters.converted reads n)
 
--- What the outputs are before the first read is counted: marked, and without counts.
-abbrev pub uncounted : ℕ → List ℕ → ℕ → EvidenceArrays
-uncounted letter reference n = evidence_arrays (marks_of letter reference n) (replicate n 0) (replicate n 0)
-
--- What a call of `begin_annotation` answers and leaves.
-pub record BegunAs (wrong : Bool) (letter : ℕ) (reference : List ℕ) (n reads : ℕ) (leaving : Bool) (before now : EvidenceArrays) (r : ℕ) : Type 0 where
-  pub answered : r ≡ refusal (simplex_faults wrong n reads leaving (three (evidence_lengths before)))
-  pub left : LeavesEvidence r (uncounted letter reference n) before now
-
 -- What a call of `add_read` leaves of the two counts.
 pub record AddedAs (s : Setting) (read : SourceRead) (n : ℕ) (unconverted converted unconverted' converted' : List ℕ) : Type 0 where
   pub unconverted_ones : unconverted' ≡ put (added n (λ i. shown s (pattern_bases s.pattern).unconverted i read) unconverted) unconverted
   pub converted_ones : converted' ≡ put (added n (λ i. shown s (pattern_bases s.pattern).converted i read) converted) converted
 
--- The number of a call's refusal.
-abbrev pub simplex_refused : Bool → Setting → List SourceRead → ℕ → EvidenceArrays → ℕ
-simplex_refused wrong s reads n before = refusal (simplex_faults wrong n (length reads) (any_leaves (length s.bytes) reads) (three (evidence_lengths before)))
+-- The refusal, if any.
+abbrev pub simplex_refused : Bool → Setting → List SourceRead → ℕ → EvidenceArrays → Option Refusal
+simplex_refused wrong s reads n before = refused (simplex_faults wrong n (length reads) (any_leaves (length s.bytes) reads) (three (evidence_lengths before)))
 
--- What a call of `gedrashiw_annotate_simplex_methylation` answers and leaves.
+-- What a call of `annotate_simplex_methylation` answers and leaves.
+pub record EvidencedAs (wrong : Bool) (s : Setting) (reads : List SourceRead) (n : ℕ) (before now : EvidenceArrays) (r : Result ℕ Refusal) : Type 0 where
+  pub answered : r ≡ answer (simplex_refused wrong s reads n before) n
+  pub left : LeavesEvidence (simplex_refused wrong s reads n before) (evidence s reads n) before now
+
+-- The same of `gedrashiw_annotate_simplex_methylation`, with the answer as numbers.
 pub record AnnotatedAs (wrong : Bool) (s : Setting) (reads : List SourceRead) (n : ℕ) (before now : EvidenceArrays) (r : Count) : Type 0 where
-  pub answered : r ≡ answer not_counted (simplex_refused wrong s reads n before) (counted n)
+  pub answered : r ≡ count_reply (answer (simplex_refused wrong s reads n before) n)
   pub left : LeavesEvidence (simplex_refused wrong s reads n before) (evidence s reads n) before now

@@ -2,59 +2,38 @@
 // methylation, replies and source_reads.
 #![tactic(auto)]
 
-ghost use Rattle.std.specs.Prelude.{◌≡◌, false, cond, ◌&&◌, [], ◌∷◌, ℕ, ◌+◌, ◌-◌, ◌<◌, ◌≤◌, min, length, replicate, eqb};
-ghost use Rattle.lists.specs.Output.{answer, put};
-ghost use Rattle.refusals.specs.Refusal.{refusal};
-ghost use Rattle.methylation.specs.Methylation.{pattern_bases};
-ghost use Rattle.replies.specs.Choices.{yes, pattern_of, wrong_pattern};
-ghost use Rattle.replies.specs.Replies.{not_counted, counted};
-ghost use Rattle.source_reads.specs.Reads.{read_leaves};
-ghost use Rattle.methylation.specs.Arrays.{evidence_arrays};
-ghost use Rattle.simplex_methylation.specs.Simplex.{setting, is_letter, base_is, looked, marks_of, added, Below, simplex_faults, BegunAs, AddedAs, AnnotatedAs};
+ghost use Rattle.std.specs.Prelude.{◌≡◌, false, cond, ◌&&◌, ℕ, ◌+◌, ◌-◌, ◌<◌, ◌≤◌, min, length};
+ghost use Rattle.lists.specs.Output.{put};
+ghost use Rattle.methylation.specs.Arrays.{evidence_arrays, PutsEvidence};
+ghost use Rattle.methylation.specs.Choices.{pattern_of, wrong_pattern};
+ghost use Rattle.replies.specs.Choices.{yes};
+ghost use Rattle.source_reads.specs.Reads.{read_leaves, any_leaves};
+ghost use Rattle.simplex_methylation.specs.Simplex.{setting, setting_in, is_letter, base_is, looked, marks_of, added, Below, AddedAs, AnnotatedAs, EvidencedAs, evidence};
 
 use dna::to_ascii_uppercase;
-use lists::{at_u8, smaller};
-use methylation::PatternBases;
-use refusals::{
-    BROKEN, MAX_POSITIONS, MAX_READS, OUTPUT_TOO_SHORT, PART_OUTSIDE, TOO_LONG, TOO_MANY_READS,
-    refuse_if,
-};
-use replies::{Count, pattern_of, wrong_pattern};
+use lists::get_or;
+use methylation::{ConversionPattern, EvidenceSlices, PatternBases, evidence_too_short};
+use refusals::{MAX_POSITIONS, MAX_READS, Refusal, refuse};
+use replies::Count;
 use source_reads::{SourceRead, list_leaves};
 
+// What all reads have in common: the pattern, the bytes of their bases, the reference bases by position, the bytes of their
+// alignment marks, and whether every position is counted.
+#[derive(Clone, Copy)]
+struct Common<'a> {
+    pattern: ConversionPattern,
+    bytes: &'a [u8],
+    reference: &'a [u8],
+    aligned: &'a [u8],
+    everywhere: bool,
+}
+
 // Whether a base is a capital letter, or its lower case.
+#[tactic(auto, unfolding(crate::specs::Simplex::is_letter))]
 fn is_letter(letter: u8, base: u8) -> bool
     ensures { result ≡ is_letter letter base }
 {
     to_ascii_uppercase(base) == letter
-}
-
-fn simplex_refusal(
-    pattern: u8,
-    consensus_len: usize,
-    reads: usize,
-    leaving: bool,
-    marks: usize,
-    unconverted: usize,
-    converted: usize,
-) -> u8
-    ensures { result ≡ refusal (simplex_faults (wrong_pattern pattern) consensus_len reads leaving (marks ∷ unconverted ∷ converted ∷ [])) }
-{
-    let number = refuse_if(0, wrong_pattern(pattern), BROKEN);
-    let number = refuse_if(number, MAX_POSITIONS < consensus_len, TOO_LONG);
-    let number = refuse_if(number, MAX_READS < reads, TOO_MANY_READS);
-    let number = refuse_if(number, leaving, PART_OUTSIDE);
-    refuse_if(
-        number,
-        (marks < consensus_len) | ((unconverted < consensus_len) | (converted < consensus_len)),
-        OUTPUT_TOO_SHORT,
-    )
-}
-
-fn mark_of(letter: u8, base: u8) -> u8
-    ensures { result ≡ cond (is_letter letter base) 1 0 }
-{
-    if is_letter(letter, base) { 1 } else { 0 }
 }
 
 // Marks the positions whose reference base is the letter. Past the reference's end there is none.
@@ -62,58 +41,9 @@ fn mark_informative(letter: u8, reference: &[u8], consensus_len: usize, marks_ou
     requires { consensus_len ≤ length marks_out.old }
     ensures { marks_out.new ≡ put (marks_of letter reference.now consensus_len) marks_out.old }
 {
-    let mut i = 0;
-    while i < consensus_len {
-        marks_out[i] = mark_of(letter, at_u8(reference, i, 0));
-        i += 1;
+    for i in 0..consensus_len {
+        marks_out[i] = u8::from(is_letter(letter, get_or(reference, i, 0)));
     }
-}
-
-// At most 1,024 places, so that their bytes can be counted.
-fn clear_counts(places: usize, counts: &mut [u32])
-    requires { (places ≤ 1024) × (places ≤ length counts.old) }
-    ensures { counts.new ≡ put (replicate places 0) counts.old }
-{
-    let mut i = 0;
-    while i < places {
-        counts[i] = 0;
-        i += 1;
-    }
-}
-
-// The refusal's number; where that is 0, the marks are written and the counts cleared.
-fn begin_annotation(
-    consensus_len: usize,
-    reads: usize,
-    leaving: bool,
-    reference: &[u8],
-    pattern: u8,
-    marks_out: &mut [u8],
-    unconverted_out: &mut [u32],
-    converted_out: &mut [u32],
-) -> u8
-    ensures { BegunAs (wrong_pattern pattern) (pattern_bases (pattern_of pattern)).reference reference.now consensus_len reads leaving
-        (evidence_arrays marks_out.old unconverted_out.old converted_out.old)
-        (evidence_arrays marks_out.new unconverted_out.new converted_out.new)
-        result }
-{
-    let number = simplex_refusal(
-        pattern,
-        consensus_len,
-        reads,
-        leaving,
-        marks_out.len(),
-        unconverted_out.len(),
-        converted_out.len(),
-    );
-    if number != 0 {
-        return number;
-    }
-    let letters = pattern_of(pattern).bases();
-    mark_informative(letters.reference, reference, consensus_len, marks_out);
-    clear_counts(consensus_len, unconverted_out);
-    clear_counts(consensus_len, converted_out);
-    number
 }
 
 // One more where a read counts. Of at most 1,024 reads no count comes near the limit at which the Rust's stays.
@@ -125,6 +55,7 @@ fn count_one(so_far: u32, met: bool) -> u32
 }
 
 // Counts the first `places` bases from the offset on.
+#[tactic(auto, using(crate::proofs::Counts::few, crate::proofs::Counts::further, crate::proofs::Counts::all_added), unfolding(crate::specs::Simplex::base_is))]
 fn add_everywhere(
     bytes: &[u8],
     offset: usize,
@@ -139,48 +70,40 @@ fn add_everywhere(
     ensures unconverted_out_after { unconverted_out.new ≡ put (added places (base_is letters.unconverted bytes.now offset) unconverted_out.old) unconverted_out.old }
     ensures converted_out_after { converted_out.new ≡ put (added places (base_is letters.converted bytes.now offset) converted_out.old) converted_out.old }
 {
-    let mut i = 0;
-    while i < places {
+    for i in 0..places {
         let base = bytes[offset + i];
         unconverted_out[i] = count_one(unconverted_out[i], is_letter(letters.unconverted, base));
         converted_out[i] = count_one(converted_out[i], is_letter(letters.converted, base));
-        i += 1;
     }
 }
 
 // Counts those of the first `places` bases from the offset on that are aligned, at informative positions.
+#[tactic(auto, using(crate::proofs::Counts::few, crate::proofs::Counts::further, crate::proofs::Counts::all_added), unfolding(crate::specs::Simplex::looked, crate::specs::Simplex::informative, crate::specs::Simplex::is_aligned, crate::specs::Simplex::base_is))]
 fn add_aligned(
-    bytes: &[u8],
-    reference: &[u8],
-    aligned: &[u8],
+    common: Common<'_>,
     offset: usize,
     places: usize,
     letters: PatternBases,
     unconverted_out: &mut [u32],
     converted_out: &mut [u32],
 )
-    requires places_in_bounds { offset + places ≤ length bytes.now }
-    requires places_in_bounds_2 { places ≤ length reference.now }
-    requires by_index { (i : ℕ) → i < places → offset + i < length aligned.now }
+    requires places_in_bounds { offset + places ≤ length common.bytes.now }
+    requires places_in_bounds_2 { places ≤ length common.reference.now }
+    requires by_index { (i : ℕ) → i < places → offset + i < length common.aligned.now }
     requires places_in_bounds_3 { (places ≤ length unconverted_out.old) × Below 1024 places unconverted_out.old }
     requires places_in_bounds_4 { (places ≤ length converted_out.old) × Below 1024 places converted_out.old }
-    ensures unconverted_out_after { unconverted_out.new ≡ put (added places (λ i. looked letters.reference reference.now aligned.now offset i && base_is letters.unconverted bytes.now offset i) unconverted_out.old) unconverted_out.old }
-    ensures converted_out_after { converted_out.new ≡ put (added places (λ i. looked letters.reference reference.now aligned.now offset i && base_is letters.converted bytes.now offset i) converted_out.old) converted_out.old }
+    ensures unconverted_out_after { unconverted_out.new ≡ put (added places (λ i. looked letters.reference common.entry.reference.now common.entry.aligned.now offset i && base_is letters.unconverted common.entry.bytes.now offset i) unconverted_out.old) unconverted_out.old }
+    ensures converted_out_after { converted_out.new ≡ put (added places (λ i. looked letters.reference common.entry.reference.now common.entry.aligned.now offset i && base_is letters.converted common.entry.bytes.now offset i) converted_out.old) converted_out.old }
 {
-    let mut i = 0;
-    while i < places {
+    for i in 0..places {
         let at = offset + i;
-        let base = bytes[at];
-        let counts = is_letter(letters.reference, reference[i]) & (aligned[at] != 0);
-        unconverted_out[i] = count_one(
-            unconverted_out[i],
-            counts & is_letter(letters.unconverted, base),
-        );
-        converted_out[i] = count_one(
-            converted_out[i],
-            counts & is_letter(letters.converted, base),
-        );
-        i += 1;
+        let base = common.bytes[at];
+        let informative = is_letter(letters.reference, common.reference[i]);
+        let counts = informative & (common.aligned[at] != 0);
+        let unconverted = counts & is_letter(letters.unconverted, base);
+        let converted = counts & is_letter(letters.converted, base);
+        unconverted_out[i] = count_one(unconverted_out[i], unconverted);
+        converted_out[i] = count_one(converted_out[i], converted);
     }
 }
 
@@ -189,37 +112,28 @@ fn add_aligned(
 fn marked_places(places: usize, reference: usize, offset: usize, aligned: usize) -> usize
     ensures { result ≡ min (min places reference) (aligned - offset) }
 {
-    let places = smaller(places, reference);
-    if aligned < offset {
-        return 0;
-    }
-    smaller(places, aligned - offset)
+    places.min(reference).min(aligned.saturating_sub(offset))
 }
 
 // Adds one read to the counts of the positions that it reaches.
 fn add_read(
+    common: Common<'_>,
     read: SourceRead,
-    bytes: &[u8],
-    reference: &[u8],
-    pattern: u8,
-    aligned: &[u8],
-    count_all_positions: u8,
     consensus_len: usize,
     unconverted_out: &mut [u32],
     converted_out: &mut [u32],
 )
-    requires { (read_leaves (length bytes.now) read ≡ false)
+    requires { (read_leaves (length common.bytes.now) read ≡ false)
         × ((consensus_len ≤ length unconverted_out.old) × Below 1024 consensus_len unconverted_out.old)
         × ((consensus_len ≤ length converted_out.old) × Below 1024 consensus_len converted_out.old) }
-    ensures { AddedAs (setting (pattern_of pattern) bytes.now reference.now aligned.now (yes count_all_positions)) read consensus_len
-        unconverted_out.old converted_out.old unconverted_out.new converted_out.new }
+    ensures { AddedAs (setting_in common.entry) read consensus_len unconverted_out.old converted_out.old unconverted_out.new converted_out.new }
 {
-    let letters = pattern_of(pattern).bases();
+    let letters = common.pattern.bases();
     let offset = read.offset;
-    let reached = smaller(consensus_len, read.length);
-    if count_all_positions != 0 {
+    let reached = consensus_len.min(read.length);
+    if common.everywhere {
         add_everywhere(
-            bytes,
+            common.bytes,
             offset,
             reached,
             letters,
@@ -228,11 +142,14 @@ fn add_read(
         );
         return;
     }
-    let places = marked_places(reached, reference.len(), offset, aligned.len());
+    let places = marked_places(
+        reached,
+        common.reference.len(),
+        offset,
+        common.aligned.len(),
+    );
     add_aligned(
-        bytes,
-        reference,
-        aligned,
+        common,
         offset,
         places,
         letters,
@@ -241,26 +158,75 @@ fn add_read(
     );
 }
 
-// How many of the reads are counted: none where the call is refused.
-fn reads_to_add(number: u8, reads: usize) -> usize
-    ensures { result ≡ cond (eqb number 0) reads 0 }
+// The marks and counts of so many positions, where there is room and no read leaves its bytes. At most 1,024 reads.
+// Lent outputs stay apart: the borrow checker has no rule for a struct of them that is passed on.
+fn write_evidence(
+    common: Common<'_>,
+    reads: &[SourceRead],
+    consensus_len: usize,
+    marks_out: &mut [u8],
+    unconverted_out: &mut [u32],
+    converted_out: &mut [u32],
+)
+    requires few { length reads.now ≤ 1024 }
+    requires inside { any_leaves (length common.bytes.now) reads.now ≡ false }
+    requires room { (consensus_len ≤ length marks_out.old) × (consensus_len ≤ length unconverted_out.old) × (consensus_len ≤ length converted_out.old) }
+    ensures { PutsEvidence (evidence (setting_in common.entry) reads.now consensus_len)
+        (evidence_arrays marks_out.old unconverted_out.old converted_out.old)
+        (evidence_arrays marks_out.new unconverted_out.new converted_out.new) }
 {
-    if number == 0 { reads } else { 0 }
+    let letters = common.pattern.bases();
+    mark_informative(
+        letters.reference,
+        common.reference,
+        consensus_len,
+        marks_out,
+    );
+    unconverted_out[..consensus_len].fill(0);
+    converted_out[..consensus_len].fill(0);
+    for &read in reads {
+        add_read(common, read, consensus_len, unconverted_out, converted_out);
+    }
 }
 
-fn simplex_answer(number: u8, consensus_len: usize) -> Count
-    ensures { result ≡ answer not_counted number (counted consensus_len) }
+// The same as a call of the library: refuses by 7, 9, 10, 12, and answers how many positions are written.
+// Lent outputs stay apart: the borrow checker has no rule for a struct of them that is passed on.
+fn annotate_simplex_methylation(
+    common: Common<'_>,
+    reads: &[SourceRead],
+    consensus_len: usize,
+    marks_out: &mut [u8],
+    unconverted_out: &mut [u32],
+    converted_out: &mut [u32],
+) -> Result<usize, Refusal>
+    ensures { EvidencedAs false (setting_in common.entry) reads.now consensus_len
+        (evidence_arrays marks_out.old unconverted_out.old converted_out.old)
+        (evidence_arrays marks_out.new unconverted_out.new converted_out.new)
+        result }
 {
-    if number != 0 {
-        return Count {
-            refused: number,
-            count: 0,
-        };
+    let out = EvidenceSlices {
+        marks: marks_out,
+        unconverted: unconverted_out,
+        converted: converted_out,
     }
-    Count {
-        refused: 0,
-        count: consensus_len,
-    }
+    .lengths();
+    let leaving = list_leaves(reads, common.bytes.len());
+    refuse(MAX_POSITIONS < consensus_len, Refusal::TooLong)?;
+    refuse(MAX_READS < reads.len(), Refusal::TooManyReads)?;
+    refuse(leaving, Refusal::PartOutside)?;
+    refuse(
+        evidence_too_short(consensus_len, out),
+        Refusal::OutputTooShort,
+    )?;
+    write_evidence(
+        common,
+        reads,
+        consensus_len,
+        marks_out,
+        unconverted_out,
+        converted_out,
+    );
+    Ok(consensus_len)
 }
 
 // Marks the consensus positions whose reference base is the pattern's (C for C to T, G for G to A), in any case, and counts there
@@ -287,33 +253,24 @@ pub extern "C" fn gedrashiw_annotate_simplex_methylation(
         (evidence_arrays marks_out.new unconverted_out.new converted_out.new)
         result }
 {
-    let leaving = list_leaves(true, reads, bytes.len());
-    let number = begin_annotation(
-        consensus_len,
-        reads.len(),
-        leaving,
-        reference,
-        pattern,
-        marks_out,
-        unconverted_out,
-        converted_out,
-    );
-    let n = reads_to_add(number, reads.len());
-    let mut i = 0usize;
-    while i < n {
-        let r = reads[i];
-        add_read(
-            r,
-            bytes,
-            reference,
-            pattern,
-            aligned,
-            count_all_positions,
-            consensus_len,
-            unconverted_out,
-            converted_out,
-        );
-        i += 1;
+    match ConversionPattern::try_from(pattern) {
+        Ok(pattern) => {
+            let common = Common {
+                pattern,
+                bytes,
+                reference,
+                aligned,
+                everywhere: count_all_positions != 0,
+            };
+            Count::from(annotate_simplex_methylation(
+                common,
+                reads,
+                consensus_len,
+                marks_out,
+                unconverted_out,
+                converted_out,
+            ))
+        }
+        Err(refusal) => Count::from(Err(refusal)),
     }
-    simplex_answer(number, consensus_len)
 }

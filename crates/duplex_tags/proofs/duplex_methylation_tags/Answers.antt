@@ -1,104 +1,135 @@
 -- `duplex_tags::duplex_methylation_tags` meets its contract: refused by its own test or by that of the texts, or all is written.
 -- Assumes nothing.
-use mathlib.Core.Path.{refl, ap, ◌∙◌}
-use Prim.Native.Nat.{ℕ}
+use mathlib.Core.Path.{◌≡◌, sym, ◌∙◌}
 use lib.ListN.{length}
-use Rattle.lists.specs.Output.{answer}
-use Rattle.lists.proofs.Output.{answer_refused, answer_map}
-use Rattle.duplex_texts.specs.Texts.{strand, text_arrays, duplex_texts}
-use Rattle.duplex_texts.specs.Outputs.{text_lengths, texts_refused, written}
-use Rattle.duplex_texts.specs.declared.DuplexTexts.TheVariants.{Refused as Refused-texts}
-use Rattle.duplex_texts.proofs.Leaves.{leaves_refused as texts_refused_is}
+use Rattle.std.proofs.Common.{None}
+use Rattle.std.proofs.lemmas.Result.{err_from_is_err_and}
+use Rattle.refusals.proofs.Outcome.{refused_by, passed_by}
+use Rattle.duplex_texts.specs.Texts.{strand_in, text_arrays}
 use Rattle.duplex_texts.proofs.Refused.{as_long}
-use Rattle.duplex_tags.specs.Tags.{count_arrays}
-use Rattle.duplex_tags.specs.Outputs.{kind_lengths, tagged}
-use Rattle.duplex_tags.specs.Parts.{needed_counts, tags_of}
-use Rattle.duplex_tags.specs.declared.DuplexMethylationTags.TheVariants.{Refused}
-use Rattle.duplex_tags.proofs.Refused.{refused_first, passed_first, enough_room, number_is}
-use Rattle.duplex_tags.proofs.Leaves.{leaves_refused, leaves_passed}
+use Rattle.duplex_tags.specs.Tags.{kind_counts, count_arrays}
+use Rattle.duplex_tags.specs.Outputs.{kind_lengths}
+use Rattle.duplex_tags.proofs.Counts.{countable}
+use Rattle.duplex_tags.proofs.Refused.{by_own, refused_first, passed_first, refused_texts, all_written, enough_room}
 use Rattle.duplex_tags.proofs.duplex_methylation_tags.Goals as goal
 
-pub returns-then-number-ne0 : goal.returns-then-number-ne0
-returns-then-number-ne0 c =
-    let a = c.args in
-    let first = strand a.a_annotation a.a_marks.now a.a_unconverted.now a.a_converted.now in
-    let second = strand a.b_annotation a.b_marks.now a.b_unconverted.now a.b_converted.now in
-    let texts = text_arrays a.seq_out.now a.a_mm_out.now a.b_mm_out.now a.mm_out.now a.ml_out.now in
-    let counts = count_arrays a.a_unconverted_out.now a.a_converted_out.now a.b_unconverted_out.now a.b_converted_out.now a.unconverted_out.now a.converted_out.now in
-    let number = refused_first a.mode a.bases.now first second texts counts c.counts_refusal-number.ensures c.if-number-ne0.true in
-    record {
-      answered = answer_refused Refused _ number c.if-number-ne0.true;
-      the_texts = texts_refused_is number c.if-number-ne0.true;
-      the_counts = leaves_refused number c.if-number-ne0.true;
-    }
+pub returns-in_err-counts_refusal : goal.returns-in_err-counts_refusal
+returns-in_err-counts_refusal c =
+    let bases = c.args.bases.now in
+    let a = strand_in c.args.a in
+    let b = strand_in c.args.b in
+    let texts = text_arrays c.args.seq_out.now c.args.a_mm_out.now c.args.b_mm_out.now c.args.mm_out.now c.args.ml_out.now in
+    let counts = count_arrays c.args.a_unconverted_out.now c.args.a_converted_out.now c.args.b_unconverted_out.now c.args.b_converted_out.now c.args.unconverted_out.now c.args.converted_out.now in
+    let told = rw (c.lengths.ensures, c.lengths-2.ensures) at (sym c.counts_refusal.ensures) in
+    let p = err_from_is_err_and c.from_residual.result c.from_residual.ensures.1 in
+    rw (p.1, p.2) (refused_first c.args.mode bases a b texts counts (refused_by _ _ (told ∙ c.in_err-counts_refusal.was)))
 
-pub returns-then-number-ne0-2 : goal.returns-then-number-ne0-2
-returns-then-number-ne0-2 c =
-    let a = c.args in
-    let first = strand a.a_annotation a.a_marks.now a.a_unconverted.now a.a_converted.now in
-    let second = strand a.b_annotation a.b_marks.now a.b_unconverted.now a.b_converted.now in
-    let texts = text_arrays a.seq_out.now a.a_mm_out.now a.b_mm_out.now a.mm_out.now a.ml_out.now in
-    let counts = count_arrays a.a_unconverted_out.now a.a_converted_out.now a.b_unconverted_out.now a.b_converted_out.now a.unconverted_out.now a.converted_out.now in
-    let passed = passed_first a.mode a.bases.now first second texts counts c.counts_refusal-number.ensures c.if-number-ne0.false in
-    let number = c.number_of-number.ensures ∙ number_is (texts_refused a.mode a.bases.now first second texts) (text_lengths (duplex_texts a.mode a.bases.now first second)) c.duplex_texts-texts.ensures.answered ∙ passed.by_texts in
-    record {
-      answered = answer_refused Refused _ number c.if-number-ne0-2.true;
-      the_texts = rw passed.by_texts at c.duplex_texts-texts.ensures.outputs;
-      the_counts = leaves_refused number c.if-number-ne0-2.true;
-    }
+pub returns-in_err-lengths : goal.returns-in_err-lengths
+returns-in_err-lengths c =
+    let bases = c.args.bases.now in
+    let a = strand_in c.args.a in
+    let b = strand_in c.args.b in
+    let texts = text_arrays c.args.seq_out.now c.args.a_mm_out.now c.args.b_mm_out.now c.args.mm_out.now c.args.ml_out.now in
+    let counts = count_arrays c.args.a_unconverted_out.now c.args.a_converted_out.now c.args.b_unconverted_out.now c.args.b_converted_out.now c.args.unconverted_out.now c.args.converted_out.now in
+    let told = rw (c.lengths.ensures, c.lengths-2.ensures) at (sym c.counts_refusal.ensures) in
+    let passed : by_own c.args.mode bases a b texts counts ≡ None = (passed_by _ _ (told ∙ c.in_ok-counts_refusal.was)).0 in
+    let p = err_from_is_err_and c.from_residual-in_err-lengths.result c.from_residual-in_err-lengths.ensures.1 in
+    rw (p.1, p.2) (refused_texts c.args.mode bases a b texts counts passed (rw c.in_err-lengths.was at c.duplex_texts.ensures))
 
-pub write_counts-requires : goal.write_counts-requires
-write_counts-requires c =
-    let a = c.args in
-    let first = strand a.a_annotation a.a_marks.now a.a_unconverted.now a.a_converted.now in
-    let second = strand a.b_annotation a.b_marks.now a.b_unconverted.now a.b_converted.now in
-    let texts = text_arrays a.seq_out.now a.a_mm_out.now a.b_mm_out.now a.mm_out.now a.ml_out.now in
-    let counts = count_arrays a.a_unconverted_out.now a.a_converted_out.now a.b_unconverted_out.now a.b_converted_out.now a.unconverted_out.now a.converted_out.now in
-    let passed = passed_first a.mode a.bases.now first second texts counts c.counts_refusal-number.ensures c.if-number-ne0.false in
-    let both = as_long (length a.bases.now) first second refl passed.given_passed in
-    let needed = needed_counts (length a.bases.now) a.a_annotation a.b_annotation in
-    let rooms = enough_room needed (kind_lengths counts.unconverted) (kind_lengths counts.converted) passed.room_passed in
-    let room = rooms.0 in
-    record {
-      countable = record { few = both.0.few; whole = both.0.unconverted; room = room.a };
-      countable_2 = record { few = both.1.few; whole = both.1.unconverted; room = room.b };
-      positions_in_bounds = room.both;
-    }
+pub write_counts-requires-clause-of_a : goal.write_counts-requires-clause-of_a
+write_counts-requires-clause-of_a c =
+    let bases = c.args.bases.now in
+    let a = strand_in c.args.a in
+    let b = strand_in c.args.b in
+    let texts = text_arrays c.args.seq_out.now c.args.a_mm_out.now c.args.b_mm_out.now c.args.mm_out.now c.args.ml_out.now in
+    let counts = count_arrays c.args.a_unconverted_out.now c.args.a_converted_out.now c.args.b_unconverted_out.now c.args.b_converted_out.now c.args.unconverted_out.now c.args.converted_out.now in
+    let told = rw (c.lengths.ensures, c.lengths-2.ensures) at (sym c.counts_refusal.ensures) in
+    let passed : by_own c.args.mode bases a b texts counts ≡ None = (passed_by _ _ (told ∙ c.in_ok-counts_refusal.was)).0 in
+    let (given, room) = passed_first c.args.mode bases a b texts counts passed in
+    let of_both = as_long bases a b given in
+    let rooms = enough_room _ (kind_lengths counts.unconverted) (kind_lengths counts.converted) room in
+    countable _ (length bases) a.evidence.unconverted of_both.0.unconverted of_both.0.few c.counts_of.ensures rooms.0.a
 
-pub write_counts-requires-2 : goal.write_counts-requires-2
-write_counts-requires-2 c =
-    let a = c.args in
-    let first = strand a.a_annotation a.a_marks.now a.a_unconverted.now a.a_converted.now in
-    let second = strand a.b_annotation a.b_marks.now a.b_unconverted.now a.b_converted.now in
-    let texts = text_arrays a.seq_out.now a.a_mm_out.now a.b_mm_out.now a.mm_out.now a.ml_out.now in
-    let counts = count_arrays a.a_unconverted_out.now a.a_converted_out.now a.b_unconverted_out.now a.b_converted_out.now a.unconverted_out.now a.converted_out.now in
-    let passed = passed_first a.mode a.bases.now first second texts counts c.counts_refusal-number.ensures c.if-number-ne0.false in
-    let both = as_long (length a.bases.now) first second refl passed.given_passed in
-    let needed = needed_counts (length a.bases.now) a.a_annotation a.b_annotation in
-    let rooms = enough_room needed (kind_lengths counts.unconverted) (kind_lengths counts.converted) passed.room_passed in
-    let room = rooms.1 in
-    record {
-      countable = record { few = both.0.few; whole = both.0.converted; room = room.a };
-      countable_2 = record { few = both.1.few; whole = both.1.converted; room = room.b };
-      positions_in_bounds = room.both;
-    }
+pub write_counts-requires-clause-of_b : goal.write_counts-requires-clause-of_b
+write_counts-requires-clause-of_b c =
+    let bases = c.args.bases.now in
+    let a = strand_in c.args.a in
+    let b = strand_in c.args.b in
+    let texts = text_arrays c.args.seq_out.now c.args.a_mm_out.now c.args.b_mm_out.now c.args.mm_out.now c.args.ml_out.now in
+    let counts = count_arrays c.args.a_unconverted_out.now c.args.a_converted_out.now c.args.b_unconverted_out.now c.args.b_converted_out.now c.args.unconverted_out.now c.args.converted_out.now in
+    let told = rw (c.lengths.ensures, c.lengths-2.ensures) at (sym c.counts_refusal.ensures) in
+    let passed : by_own c.args.mode bases a b texts counts ≡ None = (passed_by _ _ (told ∙ c.in_ok-counts_refusal.was)).0 in
+    let (given, room) = passed_first c.args.mode bases a b texts counts passed in
+    let of_both = as_long bases a b given in
+    let rooms = enough_room _ (kind_lengths counts.unconverted) (kind_lengths counts.converted) room in
+    countable _ (length bases) b.evidence.unconverted of_both.1.unconverted of_both.1.few c.counts_of-2.ensures rooms.0.b
+
+pub write_counts-requires-clause-of_both : goal.write_counts-requires-clause-of_both
+write_counts-requires-clause-of_both c =
+    let bases = c.args.bases.now in
+    let a = strand_in c.args.a in
+    let b = strand_in c.args.b in
+    let texts = text_arrays c.args.seq_out.now c.args.a_mm_out.now c.args.b_mm_out.now c.args.mm_out.now c.args.ml_out.now in
+    let counts = count_arrays c.args.a_unconverted_out.now c.args.a_converted_out.now c.args.b_unconverted_out.now c.args.b_converted_out.now c.args.unconverted_out.now c.args.converted_out.now in
+    let told = rw (c.lengths.ensures, c.lengths-2.ensures) at (sym c.counts_refusal.ensures) in
+    let passed : by_own c.args.mode bases a b texts counts ≡ None = (passed_by _ _ (told ∙ c.in_ok-counts_refusal.was)).0 in
+    let (given, room) = passed_first c.args.mode bases a b texts counts passed in
+    let of_both = as_long bases a b given in
+    let rooms = enough_room _ (kind_lengths counts.unconverted) (kind_lengths counts.converted) room in
+    record { few = of_both.0.few; room = rooms.0.both }
+
+pub write_counts-requires-2-clause-of_a : goal.write_counts-requires-2-clause-of_a
+write_counts-requires-2-clause-of_a c =
+    let bases = c.args.bases.now in
+    let a = strand_in c.args.a in
+    let b = strand_in c.args.b in
+    let texts = text_arrays c.args.seq_out.now c.args.a_mm_out.now c.args.b_mm_out.now c.args.mm_out.now c.args.ml_out.now in
+    let counts = count_arrays c.args.a_unconverted_out.now c.args.a_converted_out.now c.args.b_unconverted_out.now c.args.b_converted_out.now c.args.unconverted_out.now c.args.converted_out.now in
+    let told = rw (c.lengths.ensures, c.lengths-2.ensures) at (sym c.counts_refusal.ensures) in
+    let passed : by_own c.args.mode bases a b texts counts ≡ None = (passed_by _ _ (told ∙ c.in_ok-counts_refusal.was)).0 in
+    let (given, room) = passed_first c.args.mode bases a b texts counts passed in
+    let of_both = as_long bases a b given in
+    let rooms = enough_room _ (kind_lengths counts.unconverted) (kind_lengths counts.converted) room in
+    countable _ (length bases) a.evidence.converted of_both.0.converted of_both.0.few c.counts_of-3.ensures rooms.1.a
+
+pub write_counts-requires-2-clause-of_b : goal.write_counts-requires-2-clause-of_b
+write_counts-requires-2-clause-of_b c =
+    let bases = c.args.bases.now in
+    let a = strand_in c.args.a in
+    let b = strand_in c.args.b in
+    let texts = text_arrays c.args.seq_out.now c.args.a_mm_out.now c.args.b_mm_out.now c.args.mm_out.now c.args.ml_out.now in
+    let counts = count_arrays c.args.a_unconverted_out.now c.args.a_converted_out.now c.args.b_unconverted_out.now c.args.b_converted_out.now c.args.unconverted_out.now c.args.converted_out.now in
+    let told = rw (c.lengths.ensures, c.lengths-2.ensures) at (sym c.counts_refusal.ensures) in
+    let passed : by_own c.args.mode bases a b texts counts ≡ None = (passed_by _ _ (told ∙ c.in_ok-counts_refusal.was)).0 in
+    let (given, room) = passed_first c.args.mode bases a b texts counts passed in
+    let of_both = as_long bases a b given in
+    let rooms = enough_room _ (kind_lengths counts.unconverted) (kind_lengths counts.converted) room in
+    countable _ (length bases) b.evidence.converted of_both.1.converted of_both.1.few c.counts_of-4.ensures rooms.1.b
+
+pub write_counts-requires-2-clause-of_both : goal.write_counts-requires-2-clause-of_both
+write_counts-requires-2-clause-of_both c =
+    let bases = c.args.bases.now in
+    let a = strand_in c.args.a in
+    let b = strand_in c.args.b in
+    let texts = text_arrays c.args.seq_out.now c.args.a_mm_out.now c.args.b_mm_out.now c.args.mm_out.now c.args.ml_out.now in
+    let counts = count_arrays c.args.a_unconverted_out.now c.args.a_converted_out.now c.args.b_unconverted_out.now c.args.b_converted_out.now c.args.unconverted_out.now c.args.converted_out.now in
+    let told = rw (c.lengths.ensures, c.lengths-2.ensures) at (sym c.counts_refusal.ensures) in
+    let passed : by_own c.args.mode bases a b texts counts ≡ None = (passed_by _ _ (told ∙ c.in_ok-counts_refusal.was)).0 in
+    let (given, room) = passed_first c.args.mode bases a b texts counts passed in
+    let of_both = as_long bases a b given in
+    let rooms = enough_room _ (kind_lengths counts.unconverted) (kind_lengths counts.converted) room in
+    record { few = of_both.0.few; room = rooms.1.both }
 
 pub returns : goal.returns
+unfolding kind_counts
 returns c =
-    let a = c.args in
-    let first = strand a.a_annotation a.a_marks.now a.a_unconverted.now a.a_converted.now in
-    let second = strand a.b_annotation a.b_marks.now a.b_unconverted.now a.b_converted.now in
-    let texts = text_arrays a.seq_out.now a.a_mm_out.now a.b_mm_out.now a.mm_out.now a.ml_out.now in
-    let counts = count_arrays a.a_unconverted_out.now a.a_converted_out.now a.b_unconverted_out.now a.b_converted_out.now a.unconverted_out.now a.converted_out.now in
-    let passed = passed_first a.mode a.bases.now first second texts counts c.counts_refusal-number.ensures c.if-number-ne0.false in
-    let number = c.number_of-number.ensures ∙ number_is (texts_refused a.mode a.bases.now first second texts) (text_lengths (duplex_texts a.mode a.bases.now first second)) c.duplex_texts-texts.ensures.answered ∙ passed.by_texts in
-    let lengths = text_lengths (duplex_texts a.mode a.bases.now first second) in
-    record {
-      answered =
-          c.tags_of.ensures
-          ∙ ap tags_of c.duplex_texts-texts.ensures.answered
-          ∙ answer_map tags_of Refused-texts (texts_refused a.mode a.bases.now first second texts) (written lengths)
-          ∙ ap (λ (n : ℕ). answer Refused n (tagged lengths)) passed.by_texts;
-      the_texts = rw passed.by_texts at c.duplex_texts-texts.ensures.outputs;
-      the_counts = leaves_passed number c.if-number-ne0-2.false (record { unconverted = c.write_counts.ensures; converted = c.write_counts-2.ensures });
-    }
+    let bases = c.args.bases.now in
+    let a = strand_in c.args.a in
+    let b = strand_in c.args.b in
+    let texts = text_arrays c.args.seq_out.now c.args.a_mm_out.now c.args.b_mm_out.now c.args.mm_out.now c.args.ml_out.now in
+    let counts = count_arrays c.args.a_unconverted_out.now c.args.a_converted_out.now c.args.b_unconverted_out.now c.args.b_converted_out.now c.args.unconverted_out.now c.args.converted_out.now in
+    let told = rw (c.lengths.ensures, c.lengths-2.ensures) at (sym c.counts_refusal.ensures) in
+    let passed : by_own c.args.mode bases a b texts counts ≡ None = (passed_by _ _ (told ∙ c.in_ok-counts_refusal.was)).0 in
+    let for_unconverted = rw (c.counts_of.ensures, c.counts_of-2.ensures) at c.write_counts.ensures in
+    let for_converted = rw (c.counts_of-3.ensures, c.counts_of-4.ensures) at c.write_counts-2.ensures in
+    all_written c.args.mode bases a b texts counts passed (rw c.in_ok-lengths.was at c.duplex_texts.ensures) (record { unconverted = for_unconverted; converted = for_converted })

@@ -1,74 +1,112 @@
 -- `duplex_texts::duplex_texts` meets its contract: refused by the sequence and the evidence, or by the room of the outputs
 -- for the texts that are made in buffers, or all is written. Assumes nothing.
-use mathlib.Core.Path.{ap, ◌∙◌}
-use native.Mathlib.Omega.{arith}
-use lib.ListN.{length}
-use Rattle.lists.proofs.Output.{answer_refused, answer_passed}
-use Rattle.duplex_texts.specs.Texts.{strand, text_arrays}
-use Rattle.duplex_texts.specs.Outputs.{text_lengths, written}
-use Rattle.duplex_texts.specs.Parts.{needed_for}
-use Rattle.duplex_texts.specs.declared.DuplexTexts.TheVariants.{Refused}
-use Rattle.duplex_texts.proofs.Refused.{as_long, refused_given, refused_room, enough_room}
-use Rattle.duplex_texts.proofs.Leaves.{leaves_refused, leaves_passed}
-use Rattle.duplex_texts.proofs.Made.{few_bytes, needed, all_put}
+use mathlib.Core.Path.{◌≡◌, sym, ◌∙◌}
+use Rattle.std.proofs.Common.{None}
+use Rattle.std.proofs.lemmas.Result.{err_from_is_err_and}
+use Rattle.refusals.specs.Refusal.{refused}
+use Rattle.refusals.proofs.Outcome.{refused_by, passed_by}
+use Rattle.duplex_texts.specs.Texts.{strand_in, text_arrays}
+use Rattle.duplex_texts.specs.Outputs.{given_of, text_lengths}
+use Rattle.duplex_texts.proofs.Refused.{not_met, is_met, as_long, refused_given, refused_room, all_written, enough_room}
+use Rattle.duplex_texts.proofs.Made.{made, long_against, texts_fit, bytes_fit, few_bytes, needed, all_put}
 use Rattle.duplex_texts.proofs.duplex_texts.Goals as goal
 
-pub returns-then-number-ne0 : goal.returns-then-number-ne0
-returns-then-number-ne0 c =
-    let a = c.args in
-    let first = strand a.a_annotation a.a_marks.now a.a_unconverted.now a.a_converted.now in
-    let second = strand a.b_annotation a.b_marks.now a.b_unconverted.now a.b_converted.now in
-    let outputs = text_arrays a.seq_out.now a.a_mm_out.now a.b_mm_out.now a.mm_out.now a.ml_out.now in
-    let number = refused_given a.mode a.bases.now first second outputs c.given_refusal-number.ensures c.if-number-ne0.true in
-    record { answered = answer_refused Refused _ number c.if-number-ne0.true; outputs = leaves_refused number c.if-number-ne0.true }
+pub returns-in_err-given_refusal : goal.returns-in_err-given_refusal
+returns-in_err-given_refusal c =
+    let p = err_from_is_err_and c.from_residual.result c.from_residual.ensures.1 in
+    let told = rw (c.lengths.ensures, c.lengths-2.ensures) at (sym c.given_refusal.ensures) in
+    rw (p.1, p.2) (refused_given _ _ _ _ _ (refused_by _ _ (told ∙ c.in_err-given_refusal.was)))
 
-pub make_texts-texts-requires : goal.make_texts-texts-requires
-make_texts-texts-requires c =
-    let a = c.args in
-    let first = strand a.a_annotation a.a_marks.now a.a_unconverted.now a.a_converted.now in
-    let second = strand a.b_annotation a.b_marks.now a.b_unconverted.now a.b_converted.now in
-    let both = as_long (length a.bases.now) first second c.given_refusal-number.ensures c.if-number-ne0.false in
-    record { as_long = both.0; as_long_2 = both.1; in_bounds = omega arith }
+pub restore_both-requires-clause-as_long : goal.restore_both-requires-clause-as_long
+restore_both-requires-clause-as_long c =
+    let bases = c.args.bases.now in
+    let a = strand_in c.args.a in
+    let b = strand_in c.args.b in
+    let told = rw (c.lengths.ensures, c.lengths-2.ensures) at (sym c.given_refusal.ensures) in
+    let passed : refused (given_of bases a b) ≡ None = (passed_by _ _ (told ∙ c.in_ok-given_refusal.was)).0 in
+    (as_long bases a b passed).0
+
+pub restore_both-requires-clause-as_long_2 : goal.restore_both-requires-clause-as_long_2
+restore_both-requires-clause-as_long_2 c =
+    let bases = c.args.bases.now in
+    let a = strand_in c.args.a in
+    let b = strand_in c.args.b in
+    let told = rw (c.lengths.ensures, c.lengths-2.ensures) at (sym c.given_refusal.ensures) in
+    let passed : refused (given_of bases a b) ≡ None = (passed_by _ _ (told ∙ c.in_ok-given_refusal.was)).0 in
+    (as_long bases a b passed).1
+
+pub strand_texts-of_a-requires-clause-as_long : goal.strand_texts-of_a-requires-clause-as_long
+strand_texts-of_a-requires-clause-as_long c =
+    let bases = c.args.bases.now in
+    let a = strand_in c.args.a in
+    let b = strand_in c.args.b in
+    let told = rw (c.lengths.ensures, c.lengths-2.ensures) at (sym c.given_refusal.ensures) in
+    let passed : refused (given_of bases a b) ≡ None = (passed_by _ _ (told ∙ c.in_ok-given_refusal.was)).0 in
+    let whole = c.front-restored.ensures ∙ made c.args.mode bases a b _ c.restore_both.ensures in
+    long_against c.args.mode bases a b whole (as_long bases a b passed).0
+
+pub strand_texts-of_b-requires-clause-as_long : goal.strand_texts-of_b-requires-clause-as_long
+strand_texts-of_b-requires-clause-as_long c =
+    let bases = c.args.bases.now in
+    let a = strand_in c.args.a in
+    let b = strand_in c.args.b in
+    let told = rw (c.lengths.ensures, c.lengths-2.ensures) at (sym c.given_refusal.ensures) in
+    let passed : refused (given_of bases a b) ≡ None = (passed_by _ _ (told ∙ c.in_ok-given_refusal.was)).0 in
+    let whole = c.front-restored.ensures ∙ made c.args.mode bases a b _ c.restore_both.ensures in
+    long_against c.args.mode bases a b whole (as_long bases a b passed).1
 
 pub needed_for-needed-requires : goal.needed_for-needed-requires
 needed_for-needed-requires c =
-    let a = c.args in
-    let first = strand a.a_annotation a.a_marks.now a.a_unconverted.now a.a_converted.now in
-    let second = strand a.b_annotation a.b_marks.now a.b_unconverted.now a.b_converted.now in
-    few_bytes c.make_texts-texts.ensures (as_long (length a.bases.now) first second c.given_refusal-number.ensures c.if-number-ne0.false).0.few
+    let bases = c.args.bases.now in
+    let a = strand_in c.args.a in
+    let b = strand_in c.args.b in
+    let told = rw (c.lengths.ensures, c.lengths-2.ensures) at (sym c.given_refusal.ensures) in
+    let passed : refused (given_of bases a b) ≡ None = (passed_by _ _ (told ∙ c.in_ok-given_refusal.was)).0 in
+    let whole = c.front-restored.ensures ∙ made c.args.mode bases a b _ c.restore_both.ensures in
+    let of_a = rw whole at c.strand_texts-of_a.ensures in
+    let of_b = rw whole at c.strand_texts-of_b.ensures in
+    few_bytes _ bases a b of_a of_b (as_long bases a b passed).0.few
 
-pub returns-then-number-ne0-2 : goal.returns-then-number-ne0-2
-returns-then-number-ne0-2 c =
-    let a = c.args in
-    let first = strand a.a_annotation a.a_marks.now a.a_unconverted.now a.a_converted.now in
-    let second = strand a.b_annotation a.b_marks.now a.b_unconverted.now a.b_converted.now in
-    let outputs = text_arrays a.seq_out.now a.a_mm_out.now a.b_mm_out.now a.mm_out.now a.ml_out.now in
-    let number = refused_room a.mode a.bases.now first second outputs c.given_refusal-number.ensures c.if-number-ne0.false (rw (c.needed_for-needed.ensures ∙ needed c.make_texts-texts.ensures) at c.room_refusal-number.ensures) in
-    record { answered = answer_refused Refused _ number c.if-number-ne0-2.true; outputs = leaves_refused number c.if-number-ne0-2.true }
+pub returns-in_err-refuse : goal.returns-in_err-refuse
+returns-in_err-refuse c =
+    let bases = c.args.bases.now in
+    let a = strand_in c.args.a in
+    let b = strand_in c.args.b in
+    let told = rw (c.lengths.ensures, c.lengths-2.ensures) at (sym c.given_refusal.ensures) in
+    let passed : refused (given_of bases a b) ≡ None = (passed_by _ _ (told ∙ c.in_ok-given_refusal.was)).0 in
+    let whole = c.front-restored.ensures ∙ made c.args.mode bases a b _ c.restore_both.ensures in
+    let of_a = rw whole at c.strand_texts-of_a.ensures in
+    let of_b = rw whole at c.strand_texts-of_b.ensures in
+    let lengths = c.needed_for-needed.ensures ∙ needed c.args.mode bases a b of_a of_b in
+    let outputs = text_arrays c.args.seq_out.now c.args.a_mm_out.now c.args.b_mm_out.now c.args.mm_out.now c.args.ml_out.now in
+    let p = err_from_is_err_and c.from_residual-in_err-refuse.result c.from_residual-in_err-refuse.ensures.1 in
+    let (short, row) = is_met _ (sym c.refuse.ensures ∙ c.in_err-refuse.was) in
+    rw (p.1, p.2, row) (refused_room c.args.mode bases a b outputs passed lengths (sym c.is_too_short.ensures ∙ short))
 
-pub write_texts-requires : goal.write_texts-requires
-write_texts-requires c =
-    let a = c.args in
-    let first = strand a.a_annotation a.a_marks.now a.a_unconverted.now a.a_converted.now in
-    let second = strand a.b_annotation a.b_marks.now a.b_unconverted.now a.b_converted.now in
-    let outputs = text_arrays a.seq_out.now a.a_mm_out.now a.b_mm_out.now a.mm_out.now a.ml_out.now in
-    let r = enough_room (needed_for (length a.bases.now) c.make_texts-texts.result) (text_lengths outputs) (rw c.needed_for-needed.ensures at c.room_refusal-number.ensures) c.if-number-ne0-2.false in
-    record {
-      b_mm_bound = few_bytes c.make_texts-texts.ensures (as_long (length a.bases.now) first second c.given_refusal-number.ensures c.if-number-ne0.false).0.few;
-      b_mm_in_bounds = (r.mm, r.ml);
-    }
+pub write_groups-requires : goal.write_groups-requires
+write_groups-requires c =
+    let outputs = text_arrays c.args.seq_out.now c.args.a_mm_out.now c.args.b_mm_out.now c.args.mm_out.now c.args.ml_out.now in
+    let room = enough_room _ (text_lengths outputs) (sym c.is_too_short.ensures ∙ not_met _ (sym c.refuse.ensures ∙ c.in_ok-refuse.was)) in
+    texts_fit c.strand_texts-of_a.ensures c.strand_texts-of_b.ensures c.front-a_text.ensures c.front-b_text.ensures (rw c.needed_for-needed.ensures at room.mm)
+
+pub write_groups-requires-2 : goal.write_groups-requires-2
+write_groups-requires-2 c =
+    let outputs = text_arrays c.args.seq_out.now c.args.a_mm_out.now c.args.b_mm_out.now c.args.mm_out.now c.args.ml_out.now in
+    let room = enough_room _ (text_lengths outputs) (sym c.is_too_short.ensures ∙ not_met _ (sym c.refuse.ensures ∙ c.in_ok-refuse.was)) in
+    bytes_fit c.strand_texts-of_a.ensures c.strand_texts-of_b.ensures c.front-a_bytes.ensures c.front-b_bytes.ensures (rw c.needed_for-needed.ensures at room.ml)
 
 pub returns : goal.returns
 returns c =
-    let a = c.args in
-    let first = strand a.a_annotation a.a_marks.now a.a_unconverted.now a.a_converted.now in
-    let second = strand a.b_annotation a.b_marks.now a.b_unconverted.now a.b_converted.now in
-    let outputs = text_arrays a.seq_out.now a.a_mm_out.now a.b_mm_out.now a.mm_out.now a.ml_out.now in
-    let lengths = c.needed_for-needed.ensures ∙ needed c.make_texts-texts.ensures in
-    let number = refused_room a.mode a.bases.now first second outputs c.given_refusal-number.ensures c.if-number-ne0.false (rw lengths at c.room_refusal-number.ensures) in
-    let zero = c.if-number-ne0-2.false in
-    let room = enough_room (needed_for (length a.bases.now) c.make_texts-texts.result) (text_lengths outputs) (rw c.needed_for-needed.ensures at c.room_refusal-number.ensures) zero in
-    record {
-      answered = ap written lengths ∙ answer_passed Refused _ number zero;
-      outputs = leaves_passed number zero (all_put c.make_texts-texts.ensures c.is_second_first.ensures room c.write_texts.ensures);
-    }
+    let bases = c.args.bases.now in
+    let a = strand_in c.args.a in
+    let b = strand_in c.args.b in
+    let told = rw (c.lengths.ensures, c.lengths-2.ensures) at (sym c.given_refusal.ensures) in
+    let passed : refused (given_of bases a b) ≡ None = (passed_by _ _ (told ∙ c.in_ok-given_refusal.was)).0 in
+    let whole = c.front-restored.ensures ∙ made c.args.mode bases a b _ c.restore_both.ensures in
+    let of_a = rw whole at c.strand_texts-of_a.ensures in
+    let of_b = rw whole at c.strand_texts-of_b.ensures in
+    let lengths = c.needed_for-needed.ensures ∙ needed c.args.mode bases a b of_a of_b in
+    let outputs = text_arrays c.args.seq_out.now c.args.a_mm_out.now c.args.b_mm_out.now c.args.mm_out.now c.args.ml_out.now in
+    let long_enough = sym c.is_too_short.ensures ∙ not_met _ (sym c.refuse.ensures ∙ c.in_ok-refuse.was) in
+    let room = rw c.needed_for-needed.ensures at (enough_room _ (text_lengths outputs) long_enough) in
+    all_written c.args.mode bases a b outputs passed lengths long_enough (all_put c.args.mode bases a b of_a of_b c.is_second_first-second_first.ensures whole room c.copy.ensures c.front-a_text.ensures c.front-b_text.ensures c.front-a_bytes.ensures c.front-b_bytes.ensures c.copy-2.ensures c.copy-3.ensures c.write_groups.ensures c.write_groups-2.ensures)

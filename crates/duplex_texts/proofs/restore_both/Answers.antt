@@ -1,7 +1,7 @@
 -- `duplex_texts::restore_both` meets its contract: a copy restored by the first strand, and its front by the second. Assumes nothing.
 use mathlib.Core.Path.{sym, ap, ◌∙◌}
 use native.Mathlib.Omega.{arith}
-use Rattle.lists.proofs.Output.{put_equal, written}
+use Rattle.lists.proofs.Output.{put_equal}
 use Rattle.methylation.specs.Methylation.{is_annotated}
 use Rattle.methylation_restore.specs.Restore.{strand_bases}
 use Rattle.methylation_restore.proofs.Restored.{strand_absent, strand_of_lem}
@@ -12,16 +12,19 @@ use Rattle.duplex_texts.proofs.restore_both.Goals as goal
 
 pub returns-in_default : goal.returns-in_default
 unfolding restored_seq
-returns-in_default c = (let a = c.args in
-    written _ _ c.methylation_strand_bases.ensures.out_after (bases_fit a.a_annotation a.bases.now a.a_marks.now a.seq.now c.requires.bases_len_bound.0 c.requires.a_marks_len.0 c.requires.bases_len_bound.1)) ∙ put_equal _ (strand_absent _ _ c.in_default.is)
+returns-in_default c =
+    let a = c.args.a in
+    let fits = bases_fit a.annotation c.args.bases.now a.evidence.marks.now c.args.seq.now c.requires.room.0 c.requires.as_long.marks c.requires.room.1 in
+    (rw fits at c.methylation_strand_bases.ensures.out_after) ∙ put_equal _ (strand_absent _ _ c.in_default.is)
 
 pub returns : goal.returns
 unfolding restored_seq
 returns c =
-    let a = c.args in
-    let xs = strand_bases a.a_annotation a.a_marks.now a.bases.now in
-    let long = first_length a.a_annotation a.a_marks.now a.bases.now in
-    let marks = c.requires.a_marks_len.1 (ap is_annotated c.in-Of.is) in
-    part_restored c.in-Of.pattern a.b_marks.now xs a.seq.now (let a = c.args in
-    written _ _ c.methylation_strand_bases.ensures.out_after (bases_fit a.a_annotation a.bases.now a.a_marks.now a.seq.now c.requires.bases_len_bound.0 c.requires.a_marks_len.0 c.requires.bases_len_bound.1)) (sym long) (omega arith) (omega arith) c.restore_unconverted_bases.ensures.consensus_bases_after
-    ∙ put_equal _ (strand_of_lem _ _ c.in-Of.is)
+    let a = c.args.a in
+    let bases = c.args.bases.now in
+    let fits = bases_fit a.annotation bases a.evidence.marks.now c.args.seq.now c.requires.room.0 c.requires.as_long.marks c.requires.room.1 in
+    let xs = strand_bases a.annotation a.evidence.marks.now bases in
+    let long = first_length a.annotation a.evidence.marks.now bases in
+    let marks = c.requires.as_long_2.marks (ap is_annotated c.in-Some.is) in
+    part_restored c.in-Some.pattern c.args.b.evidence.marks.now xs c.args.seq.now (rw fits at c.methylation_strand_bases.ensures.out_after) (sym long) (omega (arith, long, c.requires.room.0)) (marks ∙ sym long) c.restore_unconverted_bases.ensures.consensus_bases_after
+    ∙ put_equal _ (strand_of_lem _ _ c.in-Some.is)

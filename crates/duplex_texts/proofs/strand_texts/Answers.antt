@@ -1,20 +1,18 @@
--- `duplex_texts::strand_texts` meets its contract: nothing without an annotation, and with one the text, and the ML bytes behind it. Assumes nothing.
-use native.Mathlib.Omega.{arith}
-use Rattle.duplex_texts.specs.Texts.{strand}
-use Rattle.duplex_texts.proofs.Texts.{no_texts, evident, tagged, some_texts}
+-- `duplex_texts::strand_texts` meets its contract: nothing without an annotation, and with one the text and the ML bytes. Assumes nothing.
+use Rattle.duplex_texts.specs.Texts.{strand_in}
+use Rattle.duplex_texts.proofs.Texts.{no_texts, some_texts}
 use Rattle.duplex_texts.proofs.strand_texts.Goals as goal
 
 pub returns-in_default : goal.returns-in_default
-returns-in_default c = no_texts _ _ _ _ c.in_default.is
+returns-in_default c = no_texts _ _ _ _ _ c.in_default.is
 
-pub write_behind-requires : goal.write_behind-requires
-write_behind-requires c =
-    (tagged _ _ _ _ (evident _ (let a = c.args in
-    strand a.annotation a.marks.now a.unconverted.now a.converted.now) c.in-Of.is c.requires.as_long) c.requires.in_bounds (omega arith) c.build_mm_ml_tags.ensures c.lengths_of-n.ensures).enough
+pub returns-in-Ok-Some : goal.returns-in-Ok-Some
+returns-in-Ok-Some c =
+    rw (c.in-Ok-Some.is, c.in-Ok-Some.field-0-is) at (some_texts _ _ _ _ (strand_in c.args.s) c.in-Some.is c.requires.as_long c.requires.room c.build_mm_ml_tags.ensures)
 
-pub returns : goal.returns
-returns c =
-    let done = tagged _ _ _ _ (evident _ (let a = c.args in
-    strand a.annotation a.marks.now a.unconverted.now a.converted.now) c.in-Of.is c.requires.as_long) c.requires.in_bounds (omega arith) c.build_mm_ml_tags.ensures c.lengths_of-n.ensures in
-    some_texts _ _ _ _ (let a = c.args in
-    strand a.annotation a.marks.now a.unconverted.now a.converted.now) c.in-Of.is done c.write_behind.ensures
+pub returns-in-Ok-None : goal.returns-in-Ok-None
+returns-in-Ok-None c =
+    rw (c.in-Ok-None.is, c.in-Ok-None.field-0-is) at (some_texts _ _ _ _ (strand_in c.args.s) c.in-Some.is c.requires.as_long c.requires.room c.build_mm_ml_tags.ensures)
+
+pub returns-in-Err : goal.returns-in-Err
+returns-in-Err c = rw c.in-Err.is at (some_texts _ _ _ _ (strand_in c.args.s) c.in-Some.is c.requires.as_long c.requires.room c.build_mm_ml_tags.ensures)

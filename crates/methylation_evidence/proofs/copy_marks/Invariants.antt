@@ -1,5 +1,4 @@
 -- What the loop keeps.
-use Prim.Native.Nat.{◌-◌}
 use mathlib.Core.List.{map}
 use Rattle.lists.proofs.Output.{Copying}
 use Rattle.vanilla_caller.specs.Strand.{mark}
@@ -7,6 +6,3 @@ use Rattle.methylation_evidence.proofs.copy_marks.Given as goal
 
 abbrev pub invariant-loop-i : goal.invariant-loop-i
 invariant-loop-i l = Copying l.n (map mark l.marks) l.initial.out l.i l.out
-
-abbrev pub decreases-loop-i : goal.decreases-loop-i
-decreases-loop-i l = l.n - l.i

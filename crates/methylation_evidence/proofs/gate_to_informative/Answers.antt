@@ -1,24 +1,15 @@
--- `methylation_evidence::gate_to_informative` meets its contract: refused by its number, or gated. Assumes nothing.
-use Rattle.lists.proofs.Output.{answer_refused, answer_passed}
-use Rattle.refusals.specs.Refusal.{Ragged}
-use Rattle.refusals.proofs.Refusal.{passed}
-use Rattle.methylation_evidence.specs.Gate.{gate_faults}
-use Rattle.methylation_evidence.specs.declared.Positions.TheVariants.{Refused}
-use Rattle.methylation.proofs.Arrays.{evidence_refused, evidence_passed, equal_lengths}
+-- `methylation_evidence::gate_to_informative` meets its contract: its loop gates each array in place. Assumes nothing.
+use Rattle.std.proofs.Common.{◌≡◌, false, rules}
+use Rattle.methylation.specs.Arrays.{evidence_ragged}
+use Rattle.methylation.proofs.Arrays.{equal_lengths}
+use Rattle.methylation_evidence.proofs.Gating.{begin_gate, next_gate}
 use Rattle.methylation_evidence.proofs.gate_to_informative.Goals as goal
 
-pub returns-then-number-ne0 : goal.returns-then-number-ne0
-returns-then-number-ne0 c =
-    let number = c.gate_refusal-number.ensures in
-    record { answered = answer_refused Refused _ number c.if-number-ne0.true; outputs = evidence_refused number c.if-number-ne0.true }
+pub loop-i-init : goal.loop-i-init
+loop-i-init c =
+    let even : evidence_ragged c.lengths-lengths.result ≡ false = search rules in
+    let same = rw c.lengths-lengths.ensures at (equal_lengths c.lengths-lengths.result even) in
+    begin_gate _ same.0 same.1
 
-pub gate-requires : goal.gate-requires
-unfolding gate_faults
-gate-requires c =
-    equal_lengths _ (passed Ragged _ c.gate_refusal-number.ensures c.if-number-ne0.false).0
-
-pub returns : goal.returns
-returns c =
-    let number = c.gate_refusal-number.ensures in
-    let zero = c.if-number-ne0.false in
-    record { answered = answer_passed Refused _ number zero; outputs = evidence_passed number zero c.gate.ensures }
+pub loop-i-preserved : goal.loop-i-preserved
+loop-i-preserved c = next_gate c.loop-i.invariant c.loop-i-test.true c.evidence_if-evidence.ensures

@@ -1,18 +1,19 @@
--- `methylation_restore::methylation_strand_bases` meets its contract: refused by its number, or written where the output has room.
--- Assumes nothing.
-use mathlib.Core.Path.{◌∙◌}
-use Rattle.lists.proofs.Output.{answer_refused, answer_passed, after_refused, after_passed}
-use Rattle.methylation_evidence.specs.declared.Positions.TheVariants.{Refused}
-use Rattle.methylation_restore.proofs.Restored.{strand_room}
+-- `methylation_restore::methylation_strand_bases` meets its contract: a copy, restored by the annotation. Assumes nothing.
+use mathlib.Core.Path.{◌≡◌, ◌∙◌}
+use Rattle.std.proofs.Common.{◌≤◌, length, arith}
+use Rattle.std.proofs.lemmas.Grind.{common_steps}
+use Rattle.lists.specs.Output.{put}
+use Rattle.lists.proofs.Output.{put_fitting}
+use Rattle.methylation.specs.Methylation.{pattern_bases}
+use Rattle.methylation_restore.specs.Restore.{restored}
+use Rattle.methylation_restore.proofs.Restored.{restored_copy}
 use Rattle.methylation_restore.proofs.methylation_strand_bases.Goals as goal
 
-pub returns-then-number-ne0 : goal.returns-then-number-ne0
-returns-then-number-ne0 c = record { value = answer_refused Refused _ c.strand_refusal-number.ensures c.if-number-ne0.true; out_after = after_refused _ _ c.strand_refusal-number.ensures c.if-number-ne0.true }
-
-pub write_strand_bases-requires : goal.write_strand_bases-requires
-write_strand_bases-requires c =
-    strand_room _ _ _ _ c.strand_refusal-number.ensures c.if-number-ne0.false
-
-pub returns : goal.returns
-returns c =
-    record { value = answer_passed Refused _ c.strand_refusal-number.ensures c.if-number-ne0.false; out_after = c.write_strand_bases.ensures ∙ after_passed _ _ c.strand_refusal-number.ensures c.if-number-ne0.false }
+pub returns-in-Some-clause-out_after : goal.returns-in-Some-clause-out_after
+returns-in-Some-clause-out_after c =
+    let a = c.args in
+    let room : length a.bases.now ≤ length a.out.now = grind (arith, common_steps) in
+    let as_many : length a.marks.now ≡ length a.bases.now = grind (arith, common_steps) in
+    let written : c.restore.new.bases ≡ put (restored c.in-Some.pattern a.marks.now a.bases.now) a.out.now =
+    (rw (c.bases.ensures, c.copy.ensures ∙ put_fitting _ _ room) at c.restore.ensures) ∙ restored_copy (pattern_bases c.in-Some.pattern) a.marks.now a.bases.now a.out.now as_many in
+    grind (arith, common_steps)

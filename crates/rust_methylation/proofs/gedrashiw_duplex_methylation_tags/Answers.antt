@@ -1,14 +1,16 @@
--- `rust_methylation::gedrashiw_duplex_methylation_tags` meets its contract: a number that stands for nothing is refused, all else is the library's call. Assumes nothing.
-use mathlib.Core.Path.{sym, ◌∙◌}
-use Rattle.replies.proofs.Replied.{turned_down, passed_on}
-use Rattle.rust_methylation.proofs.Told.{duplex_told, either}
+-- `rust_methylation::gedrashiw_duplex_methylation_tags` meets its contract: a number that stands for no mode is refused too. Assumes nothing.
+use mathlib.Core.Path.{◌≡◌, refl}
+use mathlib.Core.Bool.{Bool, true, false, ◌||◌}
+use native.Mathlib.Omega.{arith}
+use Rattle.methylation.specs.Choices.{wrong_mode}
+use Rattle.replies.proofs.Replied.{turned_down}
 use Rattle.rust_methylation.proofs.gedrashiw_duplex_methylation_tags.Goals as goal
 
-pub returns-then-wrong_annotation-wrong_mode : goal.returns-then-wrong_annotation-wrong_mode
-returns-then-wrong_annotation-wrong_mode c =
-    turned_down (sym (either (either c.wrong_annotation.ensures c.wrong_annotation-2.ensures) c.wrong_mode.ensures) ∙ c.if-wrong_annotation-wrong_mode.true) c.duplex_tags_reply.ensures
+last_true : (b : Bool) {x : Bool} → x ≡ true → (b || x) ≡ true
+last_true true e = refl
+last_true false e = e
 
-pub returns : goal.returns
-returns c =
-    passed_on _ (sym (either (either c.wrong_annotation.ensures c.wrong_annotation-2.ensures) c.wrong_mode.ensures) ∙ c.if-wrong_annotation-wrong_mode.false) c.duplex_tags_reply-2.ensures
-    (duplex_told c.annotation_of-a_told.ensures c.annotation_of-b_told.ensures c.mode_of-chosen.ensures c.duplex_methylation_tags.ensures)
+pub returns-in_default-try_from : goal.returns-in_default-try_from
+returns-in_default-try_from c =
+    let wrong : wrong_mode c.args.mode ≡ true = grind arith in
+    turned_down (last_true _ wrong) c.from-in_default-try_from.ensures

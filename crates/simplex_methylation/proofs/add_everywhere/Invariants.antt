@@ -1,5 +1,4 @@
 -- What the loop keeps.
-use Prim.Native.Nat.{◌-◌}
 use Rattle.simplex_methylation.specs.Simplex.{base_is}
 use Rattle.simplex_methylation.proofs.Counts.{Adding}
 use Rattle.simplex_methylation.proofs.add_everywhere.Given as goal
@@ -8,6 +7,3 @@ abbrev pub invariant-loop-i : goal.invariant-loop-i
 invariant-loop-i l =
     Adding l.places (base_is l.letters.unconverted l.bytes l.offset) l.initial.unconverted_out l.i l.unconverted_out
     × Adding l.places (base_is l.letters.converted l.bytes l.offset) l.initial.converted_out l.i l.converted_out
-
-abbrev pub decreases-loop-i : goal.decreases-loop-i
-decreases-loop-i l = l.places - l.i

@@ -1,12 +1,10 @@
 -- `simplex_methylation::add_read` meets its contract: it adds as far as the read, the reference and the marks go, and past that no
 -- position is met. Assumes nothing.
-use mathlib.Core.Path.{◌≡◌, ap, ◌∙◌}
-use mathlib.Core.Bool.{false, not}
+use mathlib.Core.Path.{◌≡◌}
+use mathlib.Core.Bool.{false}
 use Prim.Native.Nat.{ℕ, ◌+◌, ◌≤◌}
 use native.Mathlib.Omega.{arith}
-use borrow.Author.Tests.{eq-eqb, ne_eqb}
-use Rattle.lists.proofs.Part.{stays}
-use Rattle.methylation.specs.Methylation.{pattern_bases}
+use Rattle.lists.proofs.Parts.{stays}
 use Rattle.source_reads.specs.Reads.{read_leaves}
 use Rattle.source_reads.specs.declared.SourceRead.{SourceRead}
 use Rattle.simplex_methylation.proofs.OneRead.{added_everywhere, added_aligned}
@@ -19,23 +17,23 @@ within read size e = stays read.offset read.length size e
 pub add_everywhere-requires : goal.add_everywhere-requires
 add_everywhere-requires c =
     let pre = c.requires in
-    let few = c.smaller-reached.ensures in
+    let few = c.min-reached.ensures in
     record {
       places_in_bounds = omega (arith, few, within _ _ pre.0);
       places_in_bounds_2 = (omega (arith, few, pre.1.0), λ i l. pre.1.1 i (omega (arith, few)));
       places_in_bounds_3 = (omega (arith, few, pre.2.0), λ i l. pre.2.1 i (omega (arith, few)));
     }
 
-pub returns-then-count_all_positions-ne0 : goal.returns-then-count_all_positions-ne0
-returns-then-count_all_positions-ne0 c =
+pub returns-then-common : goal.returns-then-common
+returns-then-common c =
     let pre = c.requires in
     let written = c.add_everywhere.ensures in
-    added_everywhere _ _ _ _ _ pre.0 _ _ _ _ _ _ _ (c.bases-letters.ensures ∙ ap pattern_bases c.pattern_of.ensures) pre.1.0 pre.2.0 (ap not (ne_eqb _ 0 c.if-count_all_positions-ne0.true)) c.smaller-reached.ensures written.unconverted_out_after written.converted_out_after
+    added_everywhere _ _ _ _ _ pre.0 _ _ _ _ _ _ _ c.bases-letters.ensures pre.1.0 pre.2.0 c.if-common.true c.min-reached.ensures written.unconverted_out_after written.converted_out_after
 
 pub add_aligned-requires : goal.add_aligned-requires
 add_aligned-requires c =
     let pre = c.requires in
-    let few = c.smaller-reached.ensures in
+    let few = c.min-reached.ensures in
     let fewer = c.marked_places-places.ensures in
     record {
       places_in_bounds = omega (arith, few, fewer, within _ _ pre.0);
@@ -49,4 +47,4 @@ pub returns : goal.returns
 returns c =
     let pre = c.requires in
     let written = c.add_aligned.ensures in
-    added_aligned _ _ _ _ _ pre.0 _ _ _ _ _ _ _ (c.bases-letters.ensures ∙ ap pattern_bases c.pattern_of.ensures) pre.1.0 pre.2.0 (ap not (eq-eqb _ 0 c.if-count_all_positions-ne0.false)) c.smaller-reached.ensures c.marked_places-places.ensures written.unconverted_out_after written.converted_out_after
+    added_aligned _ _ _ _ _ pre.0 _ _ _ _ _ _ _ c.bases-letters.ensures pre.1.0 pre.2.0 c.if-common.false c.min-reached.ensures c.marked_places-places.ensures written.unconverted_out_after written.converted_out_after

@@ -1,9 +1,0 @@
--- `methylation_restore::restore_refusal` meets its contract: its tests are the faults, in the table's order. Assumes nothing.
-use mathlib.Core.Path.{◌∙◌}
-use Rattle.refusals.proofs.Refusal.{in_order}
-use Rattle.methylation_restore.specs.Restore.{restore_faults}
-use Rattle.methylation_restore.proofs.restore_refusal.Goals as goal
-
-pub returns : goal.returns
-unfolding restore_faults
-returns c = in_order _ (c.refuse_if.ensures ∙ rw c.refuse_if-number.ensures)
