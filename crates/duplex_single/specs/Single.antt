@@ -1,20 +1,20 @@
 -- One strand alone as a record, document 01: its arrays copied untruncated, evidence cleared where not informative.
-use Rattle.std.specs.Prelude.{ℕ, ◌≡◌, false, List, [], ◌∷◌, length}
-use Rattle.lists.specs.Output.{answer}
-use Rattle.refusals.specs.Refusal.{Fault, ◌if◌, refusal, TooLong, Ragged, OutputTooShort}
+use Rattle.std.specs.Prelude.{Option, Result, ℕ, ◌≡◌, false, List, [], ◌∷◌, length}
+use Rattle.refusals.specs.declared.Refusal.{Refusal}
+use Rattle.refusals.specs.declared.Refusal.TheVariants.{TooLong, Ragged, OutputTooShort}
+use Rattle.refusals.specs.Refusal.{Fault, ◌if◌, refused}
+use Rattle.refusals.specs.Outcome.{answer}
 use Rattle.methylation.specs.Arrays.{evidence_arrays, evidence_only_if}
 use Rattle.methylation.specs.Methylation.{is_annotated}
-use Rattle.methylation.specs.declared.Annotation.{Annotation}
 use Rattle.vanilla_caller.specs.Strand.{Arrays, lengths, strand_too_long, strand_ragged}
 use Rattle.vanilla_caller.specs.declared.Lengths.{Lengths}
 use Rattle.methylation_evidence.specs.Gate.{gated}
 use Rattle.duplex_outputs.specs.Outputs.{RecordArrays, record_lengths, record_too_short, LeavesRecord}
 use Rattle.duplex_outputs.specs.declared.RecordLengths.{RecordLengths}
-use Rattle.duplex_single.specs.declared.SingleStrandRecord.{SingleStrandRecord}
-use Rattle.duplex_single.specs.declared.SingleStrandRecord.TheVariants.{Refused, Written}
+use Rattle.methylation.specs.declared.ConversionPattern.{ConversionPattern}
 
 -- What is written of a strand alone: evidence where there is an annotation. It is stored as the first strand; there is no second.
-abbrev pub single_arrays : Annotation → Arrays → RecordArrays
+abbrev pub single_arrays : Option ConversionPattern → Arrays → RecordArrays
 single_arrays annotation s = record {
   bases = s.bases;
   quals = s.quals;
@@ -24,17 +24,17 @@ single_arrays annotation s = record {
 }
 
 -- The strand's annotation, the lengths of its arrays, and those of the outputs.
-unfoldable pub single_faults : Annotation → Lengths → RecordLengths → List Fault
+abbrev pub single_faults : Option ConversionPattern → Lengths → RecordLengths → List Fault
 single_faults annotation s out =
     (TooLong if strand_too_long (is_annotated annotation) s)
     ∷ (Ragged if strand_ragged (is_annotated annotation) s)
     ∷ (OutputTooShort if record_too_short s.bases (is_annotated annotation) false out)
     ∷ []
 
-abbrev pub single_refused : Annotation → Arrays → RecordArrays → ℕ
-single_refused annotation s out = refusal (single_faults annotation (lengths s) (record_lengths out))
+abbrev pub single_refused : Option ConversionPattern → Arrays → RecordArrays → Option Refusal
+single_refused annotation s out = refused (single_faults annotation (lengths s) (record_lengths out))
 
 -- What a call of `gated_single_strand` answers and leaves in its outputs.
-pub record SingleAs (annotation : Annotation) (s : Arrays) (before now : RecordArrays) (r : SingleStrandRecord) : Type 0 where
-  pub answered : r ≡ answer Refused (single_refused annotation s before) (Written (length s.bases))
+pub record SingleAs (annotation : Option ConversionPattern) (s : Arrays) (before now : RecordArrays) (r : Result ℕ Refusal) : Type 0 where
+  pub answered : r ≡ answer (single_refused annotation s before) (length s.bases)
   pub outputs : LeavesRecord (single_refused annotation s before) (single_arrays annotation s) before now

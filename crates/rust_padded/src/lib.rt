@@ -1,21 +1,24 @@
-// Entry points over numbers as they are: the padding of a strand. Uses refusals, dna, phred, methylation, replies and
+// Entry points over numbers as they are: the padding of a strand. Uses refusals, dna, phred, methylation, replies, vanilla_caller and
 // vanilla_padded.
 #![tactic(auto)]
 
 ghost use Rattle.std.specs.Prelude.{◌≡◌};
-ghost use Rattle.replies.specs.Choices.{yes, annotation_of, wrong_annotation};
+ghost use Rattle.methylation.specs.Choices.{annotation_of, wrong_annotation};
+ghost use Rattle.replies.specs.Choices.{yes};
 ghost use Rattle.replies.specs.Replies.{no_number, RepliedAs};
 ghost use Rattle.vanilla_caller.specs.Strand.{arrays};
 ghost use Rattle.vanilla_padded.specs.Padding.{padding, default_padding, PaddedAs};
 ghost use Rattle.rust_padded.specs.Answers.{pattern_number, annotation_number, padded_number};
 
 use dna::NO_CALL_BASE_LOWER;
-use methylation::{Annotation, ConversionPattern};
+use methylation::{ConversionPattern, EvidenceSlices};
 use phred::MIN_PHRED;
-use refusals::BROKEN;
-use replies::{Number, annotation_of, wrong_annotation};
-use vanilla_padded::{PaddedStrand, padded};
+use refusals::Refusal;
+use replies::{Number, annotation_in};
+use vanilla_caller::VanillaConsensusRead;
+use vanilla_padded::padded;
 
+// The numbers are those that C sees.
 fn pattern_number(pattern: ConversionPattern) -> u32
     ensures { result ≡ pattern_number pattern }
 {
@@ -25,27 +28,13 @@ fn pattern_number(pattern: ConversionPattern) -> u32
     }
 }
 
-fn annotation_number(annotation: Annotation) -> u32
+// The numbers are those that C sees.
+fn annotation_number(annotation: Option<ConversionPattern>) -> u32
     ensures { result ≡ annotation_number annotation }
 {
     match annotation {
-        Annotation::Absent => 0,
-        Annotation::Of(pattern) => pattern_number(pattern),
-    }
-}
-
-fn padded_number(r: PaddedStrand) -> Number
-    ensures { result ≡ padded_number r }
-{
-    match r {
-        PaddedStrand::Refused(number) => Number {
-            refused: number,
-            number: 0,
-        },
-        PaddedStrand::Written(annotation) => Number {
-            refused: 0,
-            number: annotation_number(annotation),
-        },
+        None => 0,
+        Some(pattern) => pattern_number(pattern),
     }
 }
 
@@ -80,18 +69,24 @@ pub extern "C" fn gedrashiw_padded(
         (arrays bases_out.new quals_out.new depths_out.new errors_out.new marks_out.new unconverted_out.new converted_out.new)
         result }
 {
-    if wrong_annotation(annotation) {
-        return padded_number(PaddedStrand::Refused(BROKEN));
-    }
-    padded_number(padded(
+    let annotation = match annotation_in(annotation) {
+        Ok(annotation) => annotation,
+        Err(refusal) => return Number::from(Err::<u32, Refusal>(refusal)),
+    };
+    let strand = VanillaConsensusRead {
         bases,
         quals,
         depths,
         errors,
-        annotation_of(annotation),
-        marks,
-        unconverted,
-        converted,
+        annotation,
+        evidence: EvidenceSlices {
+            marks,
+            unconverted,
+            converted,
+        },
+    };
+    let kept = padded(
+        strand,
         new_length,
         left != 0,
         base,
@@ -103,7 +98,8 @@ pub extern "C" fn gedrashiw_padded(
         marks_out,
         unconverted_out,
         converted_out,
-    ))
+    );
+    Number::from(kept.map(annotation_number))
 }
 
 // The same with the base n and the quality 2.

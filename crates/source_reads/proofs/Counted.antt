@@ -26,7 +26,7 @@ use Rattle.lists.specs.Output.{put}
 use Rattle.lists.specs.Part.{leaves, part}
 use Rattle.lists.specs.Table.{tabulate}
 use Rattle.lists.proofs.Output.{length_put, put_equal, put_over}
-use Rattle.lists.proofs.Part.{stays, part_outside, part_within}
+use Rattle.lists.proofs.Parts.{stays, part_outside, part_within}
 use Rattle.lists.proofs.Table.{length_tabulate, tabulate_equal}
 use Rattle.lists.proofs.Written.{table_front, put_more}
 use Rattle.numbers.specs.Numbers.{saturating_add, smallest}

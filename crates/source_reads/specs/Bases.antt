@@ -4,7 +4,12 @@ use Rattle.lists.specs.Output.{put}
 use Rattle.lists.specs.Table.{tabulate}
 use Rattle.duplex_molecule.specs.Molecule.{is_error}
 use Rattle.duplex_position.specs.Combination.{uncalled}
+use Rattle.duplex_position.specs.declared.StrandBase.{StrandBase}
 use Rattle.source_reads.specs.Reads.{one_more}
+
+-- A base and its quality.
+abbrev pub base_at : ℕ → ℕ → StrandBase
+base_at base qual = record { base = base; qual = qual }
 
 -- The unmasked base at position i where there is no call.
 abbrev pub unmasked_at : List ℕ → List ℕ → List ℕ → List ℕ → ℕ → ℕ

@@ -1,28 +1,29 @@
--- What a call that writes a strand leaves in its outputs, by the number that its code has, and what the rows on lengths leave.
+-- What a call that writes a strand leaves in its outputs, by its refusal, and what the rows on lengths leave.
 --     leaves_refused     refused: every output is as it was
 --     leaves_passed      not refused: every output has its array written to its front
 --     even, roomy        what rows 8 and 12 leave
 -- Assumes nothing.
-use mathlib.Core.Path.{◌≡◌, ◌∙◌}
+use mathlib.Core.Path.{◌≡◌, refl}
+use Rattle.std.proofs.Common.{Some, None}
 use mathlib.Core.Bool.{Bool, true, false}
 use mathlib.Core.List.{[], ◌∷◌}
 use Prim.Native.Nat.{ℕ, ◌≤◌}
 use Rattle.lists.specs.Output.{put}
-use Rattle.lists.proofs.Output.{after_refused, after_passed}
+use Rattle.refusals.specs.declared.Refusal.{Refusal}
 use Rattle.refusals.specs.Refusal.{ragged, too_short}
 use Rattle.refusals.proofs.Condition.{Every, nor_where, not_ragged, not_too_short}
-use Rattle.methylation.specs.Arrays.{three, evidence_uneven, evidence_too_short, PutsEvidence}
+use Rattle.methylation.specs.Arrays.{three, evidence_uneven, PutsEvidence}
 use Rattle.methylation.proofs.Arrays.{evidence_refused, evidence_put, as_many_as}
 use Rattle.vanilla_caller.specs.Strand.{Arrays, four, strand_ragged, outputs_too_short, Leaves}
 use Rattle.vanilla_caller.specs.declared.Lengths.{Lengths}
 
-pub leaves_refused : {written before : Arrays} {n number : ℕ} → n ≡ number → (n ≡ 0 → ⊥) → Leaves number written before before
-leaves_refused e h = record {
-  bases = after_refused _ _ e h;
-  quals = after_refused _ _ e h;
-  depths = after_refused _ _ e h;
-  errors = after_refused _ _ e h;
-  evidence = evidence_refused e h;
+pub leaves_refused : (row : Refusal) (written before : Arrays) → Leaves (Some row) written before before
+leaves_refused row written before = record {
+  bases = refl;
+  quals = refl;
+  depths = refl;
+  errors = refl;
+  evidence = evidence_refused row _ _;
 }
 
 -- Every output has its array written to its front.
@@ -33,13 +34,13 @@ pub record Puts (written before now : Arrays) : Type 0 where
   pub errors : now.errors ≡ put written.errors before.errors
   pub evidence : PutsEvidence written.evidence before.evidence now.evidence
 
-pub leaves_passed : {written before now : Arrays} {n number : ℕ} → n ≡ number → n ≡ 0 → Puts written before now → Leaves number written before now
-leaves_passed e z p = record {
-  bases = p.bases ∙ after_passed _ _ e z;
-  quals = p.quals ∙ after_passed _ _ e z;
-  depths = p.depths ∙ after_passed _ _ e z;
-  errors = p.errors ∙ after_passed _ _ e z;
-  evidence = evidence_put e z p.evidence;
+pub leaves_passed : {written before now : Arrays} → Puts written before now → Leaves None written before now
+leaves_passed p = record {
+  bases = p.bases;
+  quals = p.quals;
+  depths = p.depths;
+  errors = p.errors;
+  evidence = evidence_put p.evidence;
 }
 
 -- All arrays are as long as the bases, the evidence's where there is an annotation.
@@ -48,7 +49,6 @@ pub record Even (annotated : Bool) (s : Lengths) : Type 0 where
   pub evidence : annotated ≡ true → Every (λ x. x ≡ s.bases) (three s.evidence)
 
 pub even : (annotated : Bool) (s : Lengths) → strand_ragged annotated s ≡ false → Even annotated s
-unfolding strand_ragged
 even annotated s h =
     let (same, same_evidence) = nor_where (ragged (four s)) annotated (evidence_uneven s.bases s.evidence) h in
     record {
@@ -62,7 +62,6 @@ pub record Roomy (n : ℕ) (annotated : Bool) (out : Lengths) : Type 0 where
   pub evidence : annotated ≡ true → Every (λ x. n ≤ x) (three out.evidence)
 
 pub roomy : (n : ℕ) (annotated : Bool) (out : Lengths) → outputs_too_short n annotated out ≡ false → Roomy n annotated out
-unfolding outputs_too_short evidence_too_short
 roomy n annotated out h =
     let (wide, wide_evidence) = nor_where (too_short n (four out)) annotated (too_short n (three out.evidence)) h in
     record { own = not_too_short n (four out) wide; evidence = λ k. not_too_short n (three out.evidence) (wide_evidence k) }

@@ -1,9 +1,11 @@
 -- A strand, document 01: bases, qualities, depths and errors, and perhaps an annotation.
-use Rattle.std.specs.Prelude.{ℕ, ◌≡◌, Bool, cond, ◌&&◌, ◌||◌, List, [], ◌∷◌, eqb, length}
-use Rattle.lists.specs.Output.{after}
+use Rattle.std.specs.Prelude.{ℕ, ◌≡◌, Bool, cond, ◌&&◌, ◌||◌, Option, List, [], ◌∷◌, eqb, length}
+use Rattle.refusals.specs.declared.Refusal.{Refusal}
 use Rattle.refusals.specs.Refusal.{too_long, ragged, too_short}
-use Rattle.methylation.specs.Arrays.{EvidenceArrays, evidence_arrays, evidence_lengths, evidence_too_long, evidence_uneven, evidence_too_short, LeavesEvidence}
+use Rattle.refusals.specs.Outcome.{after}
+use Rattle.methylation.specs.Arrays.{EvidenceArrays, evidence_arrays, evidence_in, evidence_lengths, evidence_too_long, evidence_uneven, evidence_too_short, LeavesEvidence}
 use Rattle.vanilla_caller.specs.declared.Lengths.{Lengths}
+use Rattle.vanilla_caller.specs.declared.VanillaConsensusRead.{VanillaConsensusRead}
 
 -- The arrays of a strand, or those lent for one.
 pub record Arrays : Type 0 where
@@ -15,6 +17,10 @@ pub record Arrays : Type 0 where
 
 abbrev pub arrays : List ℕ → List ℕ → List ℕ → List ℕ → List ℕ → List ℕ → List ℕ → Arrays
 arrays b q d e m u c = record { bases = b; quals = q; depths = d; errors = e; evidence = evidence_arrays m u c }
+
+-- Those that are lent.
+abbrev pub arrays_in : VanillaConsensusRead → Arrays
+arrays_in r = record { bases = r.bases.now; quals = r.quals.now; depths = r.depths.now; errors = r.errors.now; evidence = evidence_in r.evidence }
 
 abbrev pub lengths : Arrays → Lengths
 lengths a = record {
@@ -30,25 +36,25 @@ abbrev pub four : Lengths → List ℕ
 four a = a.bases ∷ a.quals ∷ a.depths ∷ a.errors ∷ []
 
 -- Row 7's condition for a strand. Evidence counts where there is an annotation.
-unfoldable pub strand_too_long : Bool → Lengths → Bool
+abbrev pub strand_too_long : Bool → Lengths → Bool
 strand_too_long annotated s = too_long (four s) || (annotated && evidence_too_long s.evidence)
 
 -- Row 8's.
-unfoldable pub strand_ragged : Bool → Lengths → Bool
+abbrev pub strand_ragged : Bool → Lengths → Bool
 strand_ragged annotated s = ragged (four s) || (annotated && evidence_uneven s.bases s.evidence)
 
 -- Row 12's, for outputs to which a strand of n positions goes.
-unfoldable pub outputs_too_short : ℕ → Bool → Lengths → Bool
+abbrev pub outputs_too_short : ℕ → Bool → Lengths → Bool
 outputs_too_short n annotated out = too_short n (four out) || (annotated && evidence_too_short n out.evidence)
 
 -- An informative mark as it is written.
 abbrev pub mark : ℕ → ℕ
 mark x = cond (eqb x 0) 0 1
 
--- What a call leaves in its lent outputs, where it was refused with a number (0: not refused) or else writes these arrays.
-pub record Leaves (number : ℕ) (written before now : Arrays) : Type 0 where
-  pub bases : now.bases ≡ after number written.bases before.bases
-  pub quals : now.quals ≡ after number written.quals before.quals
-  pub depths : now.depths ≡ after number written.depths before.depths
-  pub errors : now.errors ≡ after number written.errors before.errors
-  pub evidence : LeavesEvidence number written.evidence before.evidence now.evidence
+-- What a call leaves in its lent outputs, where it was refused or else writes these arrays.
+pub record Leaves (refused : Option Refusal) (written before now : Arrays) : Type 0 where
+  pub bases : now.bases ≡ after refused written.bases before.bases
+  pub quals : now.quals ≡ after refused written.quals before.quals
+  pub depths : now.depths ≡ after refused written.depths before.depths
+  pub errors : now.errors ≡ after refused written.errors before.errors
+  pub evidence : LeavesEvidence refused written.evidence before.evidence now.evidence

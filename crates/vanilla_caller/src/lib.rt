@@ -5,19 +5,24 @@
 ghost use Rattle.std.specs.Prelude.{◌≡◌};
 ghost use Rattle.numbers.specs.Numbers.{largest, smallest};
 ghost use Rattle.vanilla_caller.specs.Depth.{max_depth, min_depth};
-ghost use Rattle.vanilla_caller.specs.Strand.{arrays, lengths, mark, strand_too_long, strand_ragged, outputs_too_short};
+ghost use Rattle.vanilla_caller.specs.Strand.{arrays_in, lengths, mark, strand_too_long, strand_ragged, outputs_too_short};
 
-use lists::at_u16;
+use lists::get_or;
 use methylation::{
-    EvidenceLengths, evidence_lengths, evidence_too_long, evidence_too_short, evidence_uneven,
+    ConversionPattern, EvidenceLengths, EvidenceSlices, evidence_too_long, evidence_too_short,
+    evidence_uneven,
 };
-use numbers::{max_u16, min_u16};
-use refusals::{MAX_POSITIONS, TOO_LONG, refuse_if};
+use refusals::{MAX_POSITIONS, Refusal, refuse};
 
+// A strand as lent slices. Its evidence is looked at where there is an annotation.
 #[derive(Clone, Copy)]
-pub enum Depth {
-    Refused(u8),
-    Of(u16),
+pub struct VanillaConsensusRead<'a> {
+    pub bases: &'a [u8],
+    pub quals: &'a [u8],
+    pub depths: &'a [u16],
+    pub errors: &'a [u16],
+    pub annotation: Option<ConversionPattern>,
+    pub evidence: EvidenceSlices<'a>,
 }
 
 // How long each array of a strand is.
@@ -30,74 +35,51 @@ pub struct Lengths {
     pub evidence: EvidenceLengths,
 }
 
-pub fn lengths_of(
-    bases: &[u8],
-    quals: &[u8],
-    depths: &[u16],
-    errors: &[u16],
-    marks: &[u8],
-    unconverted: &[u32],
-    converted: &[u32],
-) -> Lengths
-    ensures { result ≡ lengths (arrays bases.now quals.now depths.now errors.now marks.now unconverted.now converted.now) }
-{
-    let evidence = evidence_lengths(marks, unconverted, converted);
-    Lengths {
-        bases: bases.len(),
-        quals: quals.len(),
-        depths: depths.len(),
-        errors: errors.len(),
-        evidence,
+impl VanillaConsensusRead<'_> {
+    pub fn lengths(self) -> Lengths
+        ensures { result ≡ lengths (arrays_in self.entry) }
+    {
+        Lengths {
+            bases: self.bases.len(),
+            quals: self.quals.len(),
+            depths: self.depths.len(),
+            errors: self.errors.len(),
+            evidence: self.evidence.lengths(),
+        }
     }
 }
 
 fn largest_depth(depths: &[u16]) -> u16
     ensures { result ≡ largest depths.now }
 {
-    let mut found = 0;
-    let mut i = 0;
-    while i < depths.len() {
-        found = max_u16(found, depths[i]);
-        i += 1;
-    }
-    found
+    depths.iter().fold(0, |found, &depth| found.max(depth))
 }
 
 fn smallest_depth(depths: &[u16]) -> u16
     ensures { result ≡ smallest depths.now }
 {
-    let mut found = at_u16(depths, 0, 0);
-    let mut i = 0;
-    while i < depths.len() {
-        found = min_u16(found, depths[i]);
-        i += 1;
-    }
-    found
+    let first = get_or(depths, 0, 0);
+    depths.iter().fold(first, |found, &depth| found.min(depth))
 }
 
-// The largest depth of a strand, 0 over no positions. Refuses by 7.
-pub fn max_depth(depths: &[u16]) -> Depth
+// The largest depth; 0 of no positions. Refuses by 7.
+pub fn max_depth(depths: &[u16]) -> Result<u16, Refusal>
     ensures { result ≡ max_depth depths.now }
 {
-    let number = refuse_if(0, MAX_POSITIONS < depths.len(), TOO_LONG);
-    if number != 0 {
-        return Depth::Refused(number);
-    }
-    Depth::Of(largest_depth(depths))
+    refuse(MAX_POSITIONS < depths.len(), Refusal::TooLong)?;
+    Ok(largest_depth(depths))
 }
 
-// The smallest depth of a strand, 0 over no positions. Refuses by 7.
-pub fn min_depth(depths: &[u16]) -> Depth
+// The smallest depth; 0 of no positions. Refuses by 7.
+pub fn min_depth(depths: &[u16]) -> Result<u16, Refusal>
     ensures { result ≡ min_depth depths.now }
 {
-    let number = refuse_if(0, MAX_POSITIONS < depths.len(), TOO_LONG);
-    if number != 0 {
-        return Depth::Refused(number);
-    }
-    Depth::Of(smallest_depth(depths))
+    refuse(MAX_POSITIONS < depths.len(), Refusal::TooLong)?;
+    Ok(smallest_depth(depths))
 }
 
 // Row 7's condition for a strand. Its evidence counts where it is annotated.
+// Lengths alone are tested, so that of an annotation only whether there is one counts, here and in the next two.
 pub fn strand_too_long(annotated: bool, s: Lengths) -> bool
     ensures { result ≡ strand_too_long annotated s }
 {

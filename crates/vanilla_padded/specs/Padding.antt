@@ -1,19 +1,18 @@
 -- Padding a strand, document 01: positions are added left or right with a given base and quality, depth 0, error 0.
 -- Padding to the same length copies all; to more drops the annotation.
-use Rattle.std.specs.Prelude.{ℕ, ◌-◌, ◌≡◌, Bool, cond, ◌&&◌, ◌||◌, List, [], ◌∷◌, ◌++◌, map, eqb, ltb, length, replicate}
-use Rattle.lists.specs.Output.{answer}
+use Rattle.std.specs.Prelude.{None, Option, Result, ℕ, ◌-◌, ◌≡◌, Bool, cond, ◌&&◌, ◌||◌, List, [], ◌∷◌, ◌++◌, map, eqb, ltb, length, replicate}
 use Rattle.lists.specs.Part.{only_if}
-use Rattle.refusals.specs.Refusal.{Fault, ◌if◌, too_long, refusal, TooLong, Ragged, BelowLength, OutputTooShort}
+use Rattle.refusals.specs.declared.Refusal.{Refusal}
+use Rattle.refusals.specs.declared.Refusal.TheVariants.{TooLong, Ragged, BelowLength, OutputTooShort}
+use Rattle.refusals.specs.Refusal.{Fault, ◌if◌, too_long, refused}
+use Rattle.refusals.specs.Outcome.{answer}
 use Rattle.dna.specs.Dna.{lower_n}
 use Rattle.phred.specs.Phred.{min_phred}
 use Rattle.methylation.specs.Arrays.{evidence_arrays}
 use Rattle.methylation.specs.Methylation.{is_annotated}
-use Rattle.methylation.specs.declared.Annotation.{Annotation}
-use Rattle.methylation.specs.declared.Annotation.TheVariants.{Absent}
 use Rattle.vanilla_caller.specs.Strand.{Arrays, lengths, mark, strand_too_long, strand_ragged, outputs_too_short, Leaves}
 use Rattle.vanilla_caller.specs.declared.Lengths.{Lengths}
-use Rattle.vanilla_padded.specs.declared.PaddedStrand.{PaddedStrand}
-use Rattle.vanilla_padded.specs.declared.PaddedStrand.TheVariants.{Refused, Written}
+use Rattle.methylation.specs.declared.ConversionPattern.{ConversionPattern}
 
 pub record Padding : Type 0 where
   pub new_length : ℕ
@@ -34,15 +33,15 @@ module _ {A : Type 0} where
   pad_to n left v xs = cond left (replicate (n - length xs) v ++ xs) (xs ++ replicate (n - length xs) v)
 
 -- The annotation of a strand of so many positions after padding.
-abbrev pub kept : Annotation → ℕ → ℕ → Annotation
-kept annotation positions new_length = cond (eqb positions new_length) annotation Absent
+abbrev pub kept : Option ConversionPattern → ℕ → ℕ → Option ConversionPattern
+kept annotation positions new_length = cond (eqb positions new_length) annotation None
 
 -- Whether evidence is written.
-abbrev pub keeps : Annotation → ℕ → ℕ → Bool
+abbrev pub keeps : Option ConversionPattern → ℕ → ℕ → Bool
 keeps annotation positions new_length = is_annotated annotation && eqb positions new_length
 
 -- What is written to each output.
-abbrev pub padded_arrays : Annotation → Arrays → Padding → Arrays
+abbrev pub padded_arrays : Option ConversionPattern → Arrays → Padding → Arrays
 padded_arrays annotation s p =
     let pad = pad_to p.new_length p.left in
     let evidence = keeps annotation (length s.bases) p.new_length in
@@ -55,7 +54,7 @@ padded_arrays annotation s p =
     }
 
 -- The strand's annotation and the lengths of its arrays, the length to pad to, and the lengths of the outputs.
-unfoldable pub padded_faults : Annotation → Lengths → ℕ → Lengths → List Fault
+abbrev pub padded_faults : Option ConversionPattern → Lengths → ℕ → Lengths → List Fault
 padded_faults annotation s n out =
     (TooLong if (too_long (n ∷ []) || strand_too_long (is_annotated annotation) s))
     ∷ (Ragged if strand_ragged (is_annotated annotation) s)
@@ -63,10 +62,10 @@ padded_faults annotation s n out =
     ∷ (OutputTooShort if outputs_too_short n (keeps annotation s.bases n) out)
     ∷ []
 
-abbrev pub padded_refused : Annotation → Arrays → Padding → Arrays → ℕ
-padded_refused annotation s p out = refusal (padded_faults annotation (lengths s) p.new_length (lengths out))
+abbrev pub padded_refused : Option ConversionPattern → Arrays → Padding → Arrays → Option Refusal
+padded_refused annotation s p out = refused (padded_faults annotation (lengths s) p.new_length (lengths out))
 
 -- What a call of `padded` answers and leaves in its outputs.
-pub record PaddedAs (annotation : Annotation) (s : Arrays) (p : Padding) (before now : Arrays) (r : PaddedStrand) : Type 0 where
-  pub answered : r ≡ answer Refused (padded_refused annotation s p before) (Written (kept annotation (length s.bases) p.new_length))
+pub record PaddedAs (annotation : Option ConversionPattern) (s : Arrays) (p : Padding) (before now : Arrays) (r : Result (Option ConversionPattern) Refusal) : Type 0 where
+  pub answered : r ≡ answer (padded_refused annotation s p before) (kept annotation (length s.bases) p.new_length)
   pub outputs : Leaves (padded_refused annotation s p before) (padded_arrays annotation s p) before now

@@ -1,154 +1,107 @@
-// Padding of a strand, from vanilla_caller.rs. Uses lists, refusals, dna, phred, methylation,
-// vanilla_caller and methylation_evidence.
+// Padding of a strand, from vanilla_caller.rs. Uses lists, refusals, dna, phred, methylation, vanilla_caller and
+// methylation_evidence.
 #![tactic(auto)]
 
-ghost use Rattle.std.specs.Prelude.{◌≡◌, ◌≤◌, length};
+ghost use Rattle.std.specs.Prelude.{◌≡◌, ◌≤◌, map, length, take};
 ghost use Rattle.lists.specs.Output.{put};
-ghost use Rattle.refusals.specs.Refusal.{refusal};
-ghost use Rattle.methylation.specs.Arrays.{evidence_arrays, PutsEvidence};
-ghost use Rattle.vanilla_caller.specs.Strand.{arrays};
-ghost use Rattle.methylation_evidence.specs.Truncate.{truncated};
+ghost use Rattle.lists.specs.Part.{only_if};
+ghost use Rattle.refusals.specs.Refusal.{refused};
+ghost use Rattle.refusals.specs.Outcome.{answer};
+ghost use Rattle.vanilla_caller.specs.Strand.{arrays, arrays_in, mark};
 ghost use Rattle.vanilla_padded.specs.Padding.{padding, default_padding, pad_to, kept, padded_faults, PaddedAs};
 
 use dna::NO_CALL_BASE_LOWER;
-use lists::{copy_u8, copy_u16, copy_u32, fill_u8, fill_u16};
-use methylation::{Annotation, EvidenceLengths, evidence_places, is_annotated};
+use lists::copy;
+use methylation::{ConversionPattern, EvidenceSlices};
 use methylation_evidence::copy_marks;
 use phred::MIN_PHRED;
-use refusals::{BELOW_LENGTH, MAX_POSITIONS, OUTPUT_TOO_SHORT, RAGGED, TOO_LONG, refuse_if};
-use vanilla_caller::{Lengths, lengths_of, outputs_too_short, strand_ragged, strand_too_long};
-
-#[derive(Clone, Copy)]
-pub enum PaddedStrand {
-    Refused(u8),
-    // The strand is written, with this annotation.
-    Written(Annotation),
-}
+use refusals::{MAX_POSITIONS, Refusal, refuse};
+use vanilla_caller::{
+    Lengths, VanillaConsensusRead, outputs_too_short, strand_ragged, strand_too_long,
+};
 
 // The annotation of a strand of so many positions padded to new_length.
-fn kept_annotation(annotation: Annotation, positions: usize, new_length: usize) -> Annotation
+fn kept_annotation(
+    annotation: Option<ConversionPattern>,
+    positions: usize,
+    new_length: usize,
+) -> Option<ConversionPattern>
     ensures { result ≡ kept annotation positions new_length }
 {
     if positions == new_length {
         annotation
     } else {
-        Annotation::Absent
+        None
     }
 }
 
-fn padded_refusal(annotation: Annotation, strand: Lengths, new_length: usize, out: Lengths) -> u8
-    ensures { result ≡ refusal (padded_faults annotation strand new_length out) }
+// Writes an array with copies of a value added, on the left or the right, up to new_length.
+fn pad<T: Copy>(xs: &[T], new_length: usize, left: bool, value: T, out: &mut [T])
+    requires fits { (length xs.now ≤ new_length) × (new_length ≤ length out.old) }
+    requires infallible { T.is_infallible value }
+    requires clones { (other : T) → T.is_clone value other → other ≡ value }
+    ensures { out.new ≡ put (pad_to new_length left value xs.now) out.old }
 {
-    let annotated = is_annotated(annotation);
+    let size = xs.len();
+    let added = new_length - size;
+    if left {
+        out[0..added].fill(value);
+        copy(xs, &mut out[added..new_length]);
+        return;
+    }
+    copy(xs, &mut out[0..size]);
+    out[size..new_length].fill(value);
+}
+
+fn padded_refusal(
+    annotation: Option<ConversionPattern>,
+    strand: Lengths,
+    new_length: usize,
+    out: Lengths,
+) -> Result<(), Refusal>
+    ensures { result ≡ answer (refused (padded_faults annotation strand new_length out)) tt }
+{
+    let annotated = annotation.is_some();
     let positions = strand.bases;
     let evidence = annotated & (positions == new_length);
-    let number = refuse_if(
-        0,
-        (MAX_POSITIONS < new_length) | strand_too_long(annotated, strand),
-        TOO_LONG,
-    );
-    let number = refuse_if(number, strand_ragged(annotated, strand), RAGGED);
-    let number = refuse_if(number, new_length < positions, BELOW_LENGTH);
-    refuse_if(
-        number,
+    let too_long = (MAX_POSITIONS < new_length) | strand_too_long(annotated, strand);
+    refuse(too_long, Refusal::TooLong)?;
+    refuse(strand_ragged(annotated, strand), Refusal::Ragged)?;
+    refuse(new_length < positions, Refusal::BelowLength)?;
+    refuse(
         outputs_too_short(new_length, evidence, out),
-        OUTPUT_TOO_SHORT,
+        Refusal::OutputTooShort,
     )
 }
 
-fn pad_u8(xs: &[u8], new_length: usize, left: bool, value: u8, out: &mut [u8])
-    requires { (length xs.now ≤ new_length) × (new_length ≤ length out.old) }
-    ensures { out.new ≡ put (pad_to new_length left value xs.now) out.old }
-{
-    let size = xs.len();
-    let added = new_length - size;
-    if left {
-        fill_u8(value, &mut out[0..added]);
-        copy_u8(xs, &mut out[added..new_length]);
-        return;
-    }
-    copy_u8(xs, &mut out[0..size]);
-    fill_u8(value, &mut out[size..new_length]);
-}
-
-fn pad_u16(xs: &[u16], new_length: usize, left: bool, value: u16, out: &mut [u16])
-    requires { (length xs.now ≤ new_length) × (new_length ≤ length out.old) }
-    ensures { out.new ≡ put (pad_to new_length left value xs.now) out.old }
-{
-    let size = xs.len();
-    let added = new_length - size;
-    if left {
-        fill_u16(value, &mut out[0..added]);
-        copy_u16(xs, &mut out[added..new_length]);
-        return;
-    }
-    copy_u16(xs, &mut out[0..size]);
-    fill_u16(value, &mut out[size..new_length]);
-}
-
-fn write_padded(
-    bases: &[u8],
-    quals: &[u8],
-    depths: &[u16],
-    errors: &[u16],
-    new_length: usize,
-    left: bool,
-    base: u8,
-    qual: u8,
-    bases_out: &mut [u8],
-    quals_out: &mut [u8],
-    depths_out: &mut [u16],
-    errors_out: &mut [u16],
-)
-    requires bases_len_bound { (length bases.now ≤ new_length) × (new_length ≤ length bases_out.old) }
-    requires quals_len_bound { (length quals.now ≤ new_length) × (new_length ≤ length quals_out.old) }
-    requires depths_len_bound { (length depths.now ≤ new_length) × (new_length ≤ length depths_out.old) }
-    requires errors_len_bound { (length errors.now ≤ new_length) × (new_length ≤ length errors_out.old) }
-    ensures bases_out_after { bases_out.new ≡ put (pad_to new_length left base bases.now) bases_out.old }
-    ensures quals_out_after { quals_out.new ≡ put (pad_to new_length left qual quals.now) quals_out.old }
-    ensures depths_out_after { depths_out.new ≡ put (pad_to new_length left 0 depths.now) depths_out.old }
-    ensures errors_out_after { errors_out.new ≡ put (pad_to new_length left 0 errors.now) errors_out.old }
-{
-    pad_u8(bases, new_length, left, base, bases_out);
-    pad_u8(quals, new_length, left, qual, quals_out);
-    pad_u16(depths, new_length, left, 0, depths_out);
-    pad_u16(errors, new_length, left, 0, errors_out);
-}
-
-// The first so many positions of the evidence.
+// As much of the evidence as there is room for, where it is kept.
+// Lent outputs stay apart: the borrow checker has no rule for a struct of them that is passed on.
+#[tactic(auto, using(lists::proofs::Output::put_none), unfolding(lists::specs::Part::only_if))]
 fn write_evidence(
-    marks: &[u8],
-    unconverted: &[u32],
-    converted: &[u32],
-    places: usize,
+    kept: bool,
+    evidence: EvidenceSlices<'_>,
     marks_out: &mut [u8],
     unconverted_out: &mut [u32],
     converted_out: &mut [u32],
 )
-    requires places_in_bounds { (places ≤ length marks.now) × (places ≤ length marks_out.old) }
-    requires places_in_bounds_2 { (places ≤ length unconverted.now) × (places ≤ length unconverted_out.old) }
-    requires places_in_bounds_3 { (places ≤ length converted.now) × (places ≤ length converted_out.old) }
-    ensures { PutsEvidence
-        (truncated places (evidence_arrays marks.now unconverted.now converted.now))
-        (evidence_arrays marks_out.old unconverted_out.old converted_out.old)
-        (evidence_arrays marks_out.new unconverted_out.new converted_out.new) }
+    ensures marks_out { marks_out.new ≡ put (only_if kept (take (length marks_out.old) (map mark evidence.entry.marks.now))) marks_out.old }
+    ensures unconverted_out { unconverted_out.new ≡ put (only_if kept (take (length unconverted_out.old) evidence.entry.unconverted.now)) unconverted_out.old }
+    ensures converted_out { converted_out.new ≡ put (only_if kept (take (length converted_out.old) evidence.entry.converted.now)) converted_out.old }
 {
-    copy_marks(&marks[0..places], marks_out);
-    copy_u32(&unconverted[0..places], unconverted_out);
-    copy_u32(&converted[0..places], converted_out);
+    if kept {
+        copy_marks(evidence.marks, marks_out);
+        copy(evidence.unconverted, unconverted_out);
+        copy(evidence.converted, converted_out);
+    }
 }
 
-// Adds positions on the left or the right, up to new_length, with a base, a quality, depth 0 and error 0. The same length
-// copies all, with marks as 0 or 1; a greater drops the annotation and leaves its outputs as they are. Refuses by 7, 8, 11, 12.
+// Adds positions on the left or the right, up to new_length, with a base, a quality, depth 0 and error 0, and answers the annotation
+// that the strand keeps. The same length copies all, with marks as 0 or 1; a greater drops the annotation and leaves its outputs as
+// they are. Refuses by 7, 8, 11, 12.
+// `left` is the Rust's own parameter.
+// Lent outputs stay apart: the borrow checker has no rule for a struct of them that is passed on.
 pub fn padded(
-    bases: &[u8],
-    quals: &[u8],
-    depths: &[u16],
-    errors: &[u16],
-    annotation: Annotation,
-    marks: &[u8],
-    unconverted: &[u32],
-    converted: &[u32],
+    strand: VanillaConsensusRead<'_>,
     new_length: usize,
     left: bool,
     base: u8,
@@ -160,58 +113,45 @@ pub fn padded(
     marks_out: &mut [u8],
     unconverted_out: &mut [u32],
     converted_out: &mut [u32],
-) -> PaddedStrand
-    ensures { PaddedAs annotation
-        (arrays bases.now quals.now depths.now errors.now marks.now unconverted.now converted.now)
+) -> Result<Option<ConversionPattern>, Refusal>
+    ensures { PaddedAs strand.entry.annotation (arrays_in strand.entry)
         (padding new_length left base qual)
         (arrays bases_out.old quals_out.old depths_out.old errors_out.old marks_out.old unconverted_out.old converted_out.old)
         (arrays bases_out.new quals_out.new depths_out.new errors_out.new marks_out.new unconverted_out.new converted_out.new)
         result }
 {
-    let strand = lengths_of(bases, quals, depths, errors, marks, unconverted, converted);
     let out = Lengths {
         bases: bases_out.len(),
         quals: quals_out.len(),
         depths: depths_out.len(),
         errors: errors_out.len(),
-        evidence: EvidenceLengths {
-            marks: marks_out.len(),
-            unconverted: unconverted_out.len(),
-            converted: converted_out.len(),
-        },
+        evidence: EvidenceSlices {
+            marks: marks_out,
+            unconverted: unconverted_out,
+            converted: converted_out,
+        }
+        .lengths(),
     };
-    let number = padded_refusal(annotation, strand, new_length, out);
-    if number != 0 {
-        return PaddedStrand::Refused(number);
-    }
-    write_padded(
-        bases, quals, depths, errors, new_length, left, base, qual, bases_out, quals_out,
-        depths_out, errors_out,
-    );
-    let evidence = is_annotated(annotation) & (bases.len() == new_length);
-    let places = evidence_places(evidence, new_length);
+    padded_refusal(strand.annotation, strand.lengths(), new_length, out)?;
+    pad(strand.bases, new_length, left, base, bases_out);
+    pad(strand.quals, new_length, left, qual, quals_out);
+    pad(strand.depths, new_length, left, 0, depths_out);
+    pad(strand.errors, new_length, left, 0, errors_out);
+    let kept = kept_annotation(strand.annotation, strand.bases.len(), new_length);
     write_evidence(
-        marks,
-        unconverted,
-        converted,
-        places,
+        kept.is_some(),
+        strand.evidence,
         marks_out,
         unconverted_out,
         converted_out,
     );
-    PaddedStrand::Written(kept_annotation(annotation, bases.len(), new_length))
+    Ok(kept)
 }
 
 // padded with the base n and the quality 2.
+// Lent outputs stay apart: the borrow checker has no rule for a struct of them that is passed on.
 pub fn padded_default(
-    bases: &[u8],
-    quals: &[u8],
-    depths: &[u16],
-    errors: &[u16],
-    annotation: Annotation,
-    marks: &[u8],
-    unconverted: &[u32],
-    converted: &[u32],
+    strand: VanillaConsensusRead<'_>,
     new_length: usize,
     left: bool,
     bases_out: &mut [u8],
@@ -221,23 +161,15 @@ pub fn padded_default(
     marks_out: &mut [u8],
     unconverted_out: &mut [u32],
     converted_out: &mut [u32],
-) -> PaddedStrand
-    ensures { PaddedAs annotation
-        (arrays bases.now quals.now depths.now errors.now marks.now unconverted.now converted.now)
+) -> Result<Option<ConversionPattern>, Refusal>
+    ensures { PaddedAs strand.entry.annotation (arrays_in strand.entry)
         (default_padding new_length left)
         (arrays bases_out.old quals_out.old depths_out.old errors_out.old marks_out.old unconverted_out.old converted_out.old)
         (arrays bases_out.new quals_out.new depths_out.new errors_out.new marks_out.new unconverted_out.new converted_out.new)
         result }
 {
     padded(
-        bases,
-        quals,
-        depths,
-        errors,
-        annotation,
-        marks,
-        unconverted,
-        converted,
+        strand,
         new_length,
         left,
         NO_CALL_BASE_LOWER,

@@ -1,44 +1,37 @@
--- `duplex_single::gated_single_strand` meets its contract: refused by its number, or each output written, where it has room.
--- Assumes nothing.
-use mathlib.Core.List.{[]}
+-- `duplex_single::gated_single_strand` meets its contract: refused by its row, or each output written, where it has room. Assumes
+-- nothing.
 use mathlib.Core.Path.{◌∙◌}
-use Rattle.lists.proofs.Output.{answer_refused, answer_passed, put_fitting, put_none}
-use Rattle.methylation.specs.Arrays.{evidence_arrays}
-use Rattle.duplex_outputs.proofs.Outputs.{record_refused, record_passed}
-use Rattle.duplex_single.specs.declared.SingleStrandRecord.TheVariants.{Refused}
+use mathlib.Core.List.{[]}
+use Rattle.std.proofs.lemmas.Result.{err_from_is_err_and}
+use Rattle.lists.proofs.Output.{put_fitting, put_none}
+use Rattle.vanilla_caller.specs.Strand.{arrays_in}
+use Rattle.duplex_outputs.specs.Outputs.{record_of}
 use Rattle.duplex_single.proofs.Gated.{gated_or_none}
-use Rattle.duplex_single.proofs.Room.{by_lengths, room}
+use Rattle.duplex_single.proofs.Room.{turned_down, has_room, written}
 use Rattle.duplex_single.proofs.gated_single_strand.Goals as goal
 
-pub returns-then-number-ne0 : goal.returns-then-number-ne0
-returns-then-number-ne0 c =
-    let number = by_lengths _ _ _ c.lengths_of-strand.ensures c.single_refusal-number.ensures in
-    record { answered = answer_refused Refused _ number c.if-number-ne0.true; outputs = record_refused number c.if-number-ne0.true }
+pub returns-in_err-single_refusal : goal.returns-in_err-single_refusal
+returns-in_err-single_refusal c =
+    let p = err_from_is_err_and c.from_residual.result c.from_residual.ensures.1 in
+    turned_down _ _ _ c.lengths-2.ensures c.lengths.ensures c.single_refusal.ensures c.in_err-single_refusal.was (rw p.2 at p.1)
 
 pub write_gated-requires : goal.write_gated-requires
 write_gated-requires c =
-    let number = by_lengths _ _ _ c.lengths_of-strand.ensures c.single_refusal-number.ensures in
-    let r = room _ _ _ number c.if-number-ne0.false in
-    record {
-      places_in_bounds = rw (c.evidence_places-places.ensures, c.is_annotated.ensures) r.marks;
-      places_in_bounds_2 = rw (c.evidence_places-places.ensures, c.is_annotated.ensures) r.unconverted;
-      places_in_bounds_3 = rw (c.evidence_places-places.ensures, c.is_annotated.ensures) r.converted;
-    }
+    let a = c.args in
+    let before = record_of a.bases_out.now a.quals_out.now a.errors_out.now a.marks_out.now a.unconverted_out.now a.converted_out.now [] [] [] in
+    let r = has_room a.strand.annotation (arrays_in a.strand) before c.lengths-2.ensures c.lengths.ensures c.single_refusal.ensures c.in_ok-single_refusal.was in
+    rw (c.evidence_places-places.ensures, c.is_some.ensures) record { marks = r.marks; unconverted = r.unconverted; converted = r.converted }
 
 pub returns : goal.returns
 returns c =
-    let number = by_lengths _ _ _ c.lengths_of-strand.ensures c.single_refusal-number.ensures in
-    let passed = c.if-number-ne0.false in
-    let r = room _ _ _ number passed in
     let a = c.args in
-    let places = rw c.is_annotated.ensures at c.evidence_places-places.ensures in
-    record {
-      answered = answer_passed Refused _ number passed;
-      outputs = record_passed number passed (record {
-        bases = c.copy_u8.ensures ∙ put_fitting _ _ r.bases;
-        quals = c.copy_u8-2.ensures ∙ put_fitting _ _ r.quals;
-        errors = c.copy_u16.ensures ∙ put_fitting _ _ r.errors;
-        a = gated_or_none _ _ (evidence_arrays a.marks.now a.unconverted.now a.converted.now) places c.write_gated.ensures;
-        b = record { marks = put_none []; unconverted = put_none []; converted = put_none [] };
-      });
-    }
+    let before = record_of a.bases_out.now a.quals_out.now a.errors_out.now a.marks_out.now a.unconverted_out.now a.converted_out.now [] [] [] in
+    let r = has_room a.strand.annotation (arrays_in a.strand) before c.lengths-2.ensures c.lengths.ensures c.single_refusal.ensures c.in_ok-single_refusal.was in
+    let places = rw c.is_some.ensures at c.evidence_places-places.ensures in
+    written a.strand.annotation (arrays_in a.strand) before c.lengths-2.ensures c.lengths.ensures c.single_refusal.ensures c.in_ok-single_refusal.was (record {
+      bases = c.copy.ensures ∙ put_fitting _ _ r.bases;
+      quals = c.copy-2.ensures ∙ put_fitting _ _ r.quals;
+      errors = c.copy-3.ensures ∙ put_fitting _ _ r.errors;
+      a = gated_or_none _ _ (arrays_in a.strand).evidence places c.write_gated.ensures;
+      b = record { marks = put_none []; unconverted = put_none []; converted = put_none [] };
+    })

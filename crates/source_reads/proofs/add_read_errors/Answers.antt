@@ -5,8 +5,8 @@ use Rattle.source_reads.proofs.add_read_errors.Goals as goal
 
 pub returns-then-is_set : goal.returns-then-is_set
 returns-then-is_set c =
-    one_shown _ _ _ _ _ _ c.part_u8-bases.ensures c.smaller.ensures c.smaller-2.ensures c.smaller-all.ensures c.smaller-n.ensures (either _ _ c.is_set.ensures c.if-is_set.true) c.add_shown_errors.ensures
+    one_shown _ _ _ _ _ _ c.part-bases.ensures c.min.ensures c.min-2.ensures c.min-all.ensures c.min-n.ensures (either _ _ c.is_set.ensures c.if-is_set.true) c.add_shown_errors.ensures
 
 pub returns-else-is_set : goal.returns-else-is_set
 returns-else-is_set c =
-    one_shown _ _ _ _ _ _ c.part_u8-bases.ensures c.smaller.ensures c.smaller-2.ensures c.smaller-all.ensures c.smaller-n.ensures (either _ _ c.is_set.ensures c.if-is_set.false) c.add_shown_errors-else-is_set.ensures
+    one_shown _ _ _ _ _ _ c.part-bases.ensures c.min.ensures c.min-2.ensures c.min-all.ensures c.min-n.ensures (either _ _ c.is_set.ensures c.if-is_set.false) c.add_shown_errors-else-is_set.ensures

@@ -1,25 +1,14 @@
 -- `source_reads::add_shown_errors` meets its contract: its loop adds the errors of the bases, one position a turn. Assumes nothing.
 use mathlib.Core.Path.{refl}
 use borrow.Author.Rules.{rules}
-use Rattle.lists.proofs.Output.{same, fits}
 use Rattle.source_reads.proofs.Adding.{start, turn, end}
 use Rattle.source_reads.proofs.add_shown_errors.Goals as goal
-
-pub bounds-errors-i : goal.bounds-errors-i
-bounds-errors-i c = fits c.loop-i.invariant.filling c.loop-i-test.true
-
-pub bounds-errors-i-in-loop-i : goal.bounds-errors-i-in-loop-i
-bounds-errors-i-in-loop-i c = fits c.loop-i.invariant.filling c.loop-i-test.true
-
-pub loop-i-preserved : goal.loop-i-preserved
-loop-i-preserved c =
-    turn c.loop-i.invariant c.loop-i-test.true refl c.is_error.ensures c.one_more.ensures
 
 pub loop-i-init : goal.loop-i-init
 loop-i-init c = start (search rules)
 
-pub shape_of-errors : goal.shape_of-errors
-shape_of-errors c = same c.loop-i.invariant.filling
+pub loop-i-preserved : goal.loop-i-preserved
+loop-i-preserved c = turn c.loop-i.invariant c.loop-i-test.true refl c.is_error.ensures c.one_more.ensures
 
 pub returns : goal.returns
 returns c = end c.loop-i.invariant c.loop-i-test.false

@@ -6,9 +6,9 @@ use Rattle.source_reads.proofs.count_read_errors.Goals as goal
 
 pub returns-then-n-eq0 : goal.returns-then-n-eq0
 returns-then-n-eq0 c =
-    none_counted c.args.reads.now c.args.bytes.now c.args.ct c.args.positions c.args.a_bases.now c.args.a_quals.now c.args.b_bases.now c.args.b_quals.now c.args.errors.now (sym c.counted_length-n.ensures ∙ c.if-n-eq0.true)
+    none_counted c.args.reads.now c.args.bytes.now c.args.ct c.args.positions c.args.a.bases.now c.args.a.quals.now c.args.b.bases.now c.args.b.quals.now c.args.errors.now (sym c.counted_length-n.ensures ∙ c.if-n-eq0.true)
 
 pub returns : goal.returns
 returns c =
     c.count_shown_errors.ensures
-    ∙ as_expected c.args.reads.now c.args.bytes.now c.args.ct c.args.positions c.args.a_bases.now c.args.a_quals.now c.args.b_bases.now c.args.b_quals.now c.args.errors.now c.counted_length-n.ensures c.expected_bases-first.ensures c.expected_bases-last.ensures
+    ∙ as_expected c.args.reads.now c.args.bytes.now c.args.ct c.args.positions c.args.a.bases.now c.args.a.quals.now c.args.b.bases.now c.args.b.quals.now c.args.errors.now c.counted_length-n.ensures c.expected_bases-first.ensures c.expected_bases-last.ensures

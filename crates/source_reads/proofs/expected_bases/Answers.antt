@@ -1,5 +1,8 @@
 -- `source_reads::expected_bases` meets its contract: one of its loops fills the front of the array. Assumes nothing.
 use Prim.Native.Nat.{ℕ}
+use mathlib.Core.Path.{◌≡◌}
+use borrow.Author.Rules.{rules}
+use Rattle.duplex_molecule.specs.declared.CtInput.TheVariants.{Neither}
 use lib.ListN.{length-replicate}
 use Rattle.source_reads.proofs.Counted.{expected_room, expected_uncalled, expected_called}
 use Rattle.source_reads.proofs.expected_bases.Goals as goal
@@ -10,9 +13,10 @@ write_uncalled-requires c = expected_room _ _ _ _ _ _ (length-replicate {A = ℕ
 pub write_called-requires : goal.write_called-requires
 write_called-requires c = expected_room _ _ _ _ _ _ (length-replicate {A = ℕ} 1024 0) c.counted_length-n.ensures
 
-pub returns-in-Neither : goal.returns-in-Neither
-returns-in-Neither c =
-    expected_uncalled _ _ _ _ _ _ _ c.counted_length-n.ensures c.in-Neither.is c.write_uncalled.ensures
+pub returns-then-eq : goal.returns-then-eq
+returns-then-eq c =
+    let neither : c.args.ct ≡ Neither = search rules in
+    expected_uncalled _ _ _ _ _ _ _ c.counted_length-n.ensures neither c.write_uncalled.ensures
 
-pub returns-in_default : goal.returns-in_default
-returns-in_default c = expected_called _ _ _ _ _ _ _ c.counted_length-n.ensures c.write_called.ensures
+pub returns-else-eq : goal.returns-else-eq
+returns-else-eq c = expected_called _ _ _ _ _ _ _ c.counted_length-n.ensures c.write_called.ensures

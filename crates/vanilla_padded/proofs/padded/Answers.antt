@@ -1,48 +1,52 @@
--- `vanilla_padded::padded` meets its contract: refused by its number, or each output written, where it has room. Assumes nothing.
-use mathlib.Core.Path.{ap, ◌∙◌}
-use mathlib.Core.List.{map}
-use Rattle.lists.proofs.Output.{answer_refused, answer_passed, put_equal}
-use Rattle.vanilla_caller.specs.Strand.{mark}
-use Rattle.vanilla_padded.specs.declared.PaddedStrand.TheVariants.{Refused, Written}
-use Rattle.lists.proofs.Part.{all_or_none_lem}
-use Rattle.vanilla_padded.proofs.Room.{by_lengths, room}
-use Rattle.vanilla_caller.proofs.Strand.{leaves_refused, leaves_passed}
+-- `vanilla_padded::padded` meets its contract: refused by its row, or each output written, where it has room. Assumes nothing.
+use lib.ListN.{length}
+use Rattle.std.proofs.lemmas.Result.{err_from_is_err_and}
+use Rattle.vanilla_caller.specs.Strand.{arrays_in, arrays}
+use Rattle.vanilla_padded.specs.Padding.{padding}
+use Rattle.vanilla_padded.proofs.Room.{turned_down, passed, has_room, written, kept_evidence}
 use Rattle.vanilla_padded.proofs.padded.Goals as goal
 
-pub returns-then-number-ne0 : goal.returns-then-number-ne0
-returns-then-number-ne0 c =
-    let number = by_lengths _ _ _ _ c.lengths_of-strand.ensures c.padded_refusal-number.ensures in
-    record { answered = answer_refused Refused _ number c.if-number-ne0.true; outputs = leaves_refused number c.if-number-ne0.true }
+pub returns-in_err-padded_refusal : goal.returns-in_err-padded_refusal
+returns-in_err-padded_refusal c =
+    let p = err_from_is_err_and c.from_residual.result c.from_residual.ensures.1 in
+    turned_down _ _ _ _ c.lengths-2.ensures c.lengths.ensures c.padded_refusal.ensures c.in_err-padded_refusal.was (rw p.2 at p.1)
 
-pub write_padded-requires : goal.write_padded-requires
-write_padded-requires c =
-    let number = by_lengths _ _ _ _ c.lengths_of-strand.ensures c.padded_refusal-number.ensures in
-    let r = room _ _ _ _ number c.if-number-ne0.false in
-    record { bases_len_bound = r.bases; quals_len_bound = r.quals; depths_len_bound = r.depths; errors_len_bound = r.errors }
+pub pad-requires-clause-fits : goal.pad-requires-clause-fits
+pad-requires-clause-fits c =
+    let a = c.args in
+    let before = arrays a.bases_out.now a.quals_out.now a.depths_out.now a.errors_out.now a.marks_out.now a.unconverted_out.now a.converted_out.now in
+    (has_room a.strand.annotation (arrays_in a.strand) (padding a.new_length a.left a.base a.qual) before c.lengths-2.ensures c.lengths.ensures c.padded_refusal.ensures c.in_ok-padded_refusal.was).bases
 
-pub write_evidence-requires : goal.write_evidence-requires
-write_evidence-requires c =
-    let number = by_lengths _ _ _ _ c.lengths_of-strand.ensures c.padded_refusal-number.ensures in
-    let r = room _ _ _ _ number c.if-number-ne0.false in
-    rw (c.evidence_places-places.ensures, c.is_annotated.ensures) record { places_in_bounds = r.marks; places_in_bounds_2 = r.unconverted; places_in_bounds_3 = r.converted }
+pub pad-requires-2-clause-fits : goal.pad-requires-2-clause-fits
+pad-requires-2-clause-fits c =
+    let a = c.args in
+    let before = arrays a.bases_out.now a.quals_out.now a.depths_out.now a.errors_out.now a.marks_out.now a.unconverted_out.now a.converted_out.now in
+    (has_room a.strand.annotation (arrays_in a.strand) (padding a.new_length a.left a.base a.qual) before c.lengths-2.ensures c.lengths.ensures c.padded_refusal.ensures c.in_ok-padded_refusal.was).quals
+
+pub pad-requires-3-clause-fits : goal.pad-requires-3-clause-fits
+pad-requires-3-clause-fits c =
+    let a = c.args in
+    let before = arrays a.bases_out.now a.quals_out.now a.depths_out.now a.errors_out.now a.marks_out.now a.unconverted_out.now a.converted_out.now in
+    (has_room a.strand.annotation (arrays_in a.strand) (padding a.new_length a.left a.base a.qual) before c.lengths-2.ensures c.lengths.ensures c.padded_refusal.ensures c.in_ok-padded_refusal.was).depths
+
+pub pad-requires-4-clause-fits : goal.pad-requires-4-clause-fits
+pad-requires-4-clause-fits c =
+    let a = c.args in
+    let before = arrays a.bases_out.now a.quals_out.now a.depths_out.now a.errors_out.now a.marks_out.now a.unconverted_out.now a.converted_out.now in
+    (has_room a.strand.annotation (arrays_in a.strand) (padding a.new_length a.left a.base a.qual) before c.lengths-2.ensures c.lengths.ensures c.padded_refusal.ensures c.in_ok-padded_refusal.was).errors
 
 pub returns : goal.returns
 returns c =
-    let number = by_lengths _ _ _ _ c.lengths_of-strand.ensures c.padded_refusal-number.ensures in
-    let passed = c.if-number-ne0.false in
-    let r = room _ _ _ _ number passed in
-    let places = rw c.is_annotated.ensures at c.evidence_places-places.ensures in
-    record {
-      answered = ap Written c.kept_annotation.ensures ∙ answer_passed Refused _ number passed;
-      outputs = leaves_passed number passed (record {
-        bases = c.write_padded.ensures.bases_out_after;
-        quals = c.write_padded.ensures.quals_out_after;
-        depths = c.write_padded.ensures.depths_out_after;
-        errors = c.write_padded.ensures.errors_out_after;
-        evidence = record {
-          marks = c.write_evidence.ensures.marks ∙ put_equal _ (ap (map mark) (all_or_none_lem _ _ _ places (λ k. (r.whole k).0)));
-          unconverted = c.write_evidence.ensures.unconverted ∙ put_equal _ (all_or_none_lem _ _ _ places (λ k. (r.whole k).1));
-          converted = c.write_evidence.ensures.converted ∙ put_equal _ (all_or_none_lem _ _ _ places (λ k. (r.whole k).2));
-        };
-      });
-    }
+    let a = c.args in
+    let before = arrays a.bases_out.now a.quals_out.now a.depths_out.now a.errors_out.now a.marks_out.now a.unconverted_out.now a.converted_out.now in
+    let strand = arrays_in a.strand in
+    let padding = padding a.new_length a.left a.base a.qual in
+    let row = passed a.strand.annotation strand padding before c.lengths-2.ensures c.lengths.ensures c.padded_refusal.ensures c.in_ok-padded_refusal.was in
+    let r = has_room a.strand.annotation strand padding before c.lengths-2.ensures c.lengths.ensures c.padded_refusal.ensures c.in_ok-padded_refusal.was in
+    written a.strand.annotation strand padding before row c.kept_annotation-kept.ensures (record {
+      bases = c.pad.ensures;
+      quals = c.pad-2.ensures;
+      depths = c.pad-3.ensures;
+      errors = c.pad-4.ensures;
+      evidence = kept_evidence a.strand.annotation (length a.strand.bases.now) a.new_length strand.evidence before.evidence c.kept_annotation-kept.ensures c.is_some.ensures r.evidence c.write_evidence.ensures.marks_out c.write_evidence.ensures.unconverted_out c.write_evidence.ensures.converted_out;
+    })

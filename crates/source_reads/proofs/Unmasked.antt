@@ -1,5 +1,4 @@
--- `source_reads::unmasked_base` meets its contract: the base of the higher quality, which is either where they are equal. Assumes
--- nothing.
+-- The base before it is masked is that of the higher quality, which is either where they are equal. Assumes nothing.
 use mathlib.Core.Path.{◌≡◌, refl, sym, ◌∙◌}
 use mathlib.Core.Bool.{Bool, true, false, cond, ◌||◌}
 use Prim.Native.Nat.{ℕ, ◌≤◌, ◌<◌}
@@ -7,7 +6,6 @@ use borrow.Author.Tests.{eqb-true, lt-ltb, le-ltb}
 use lib.Dec.{eqb, ltb}
 use Rattle.duplex_position.specs.Combination.{agreed, disagreed, masked, uncalled}
 use Rattle.duplex_position.specs.declared.Position.{Position}
-use Rattle.source_reads.proofs.unmasked_base.Goals as goal
 
 -- The mask leaves the raw base.
 raw_of : (a b base qual : ℕ) → (masked a b base qual).raw ≡ base
@@ -30,14 +28,8 @@ raw a qa b qb = go (eqb a b) refl
     go true e = either (ltb qa qb) (eqb-true a b e) ∙ sym (raw_of a b a (agreed qa qb))
     go false e = sym (raw_of a b (cond (ltb qa qb) b a) (disagreed qa qb))
 
-b_wins : (a qa b qb : ℕ) → qa < qb → b ≡ (uncalled a qa b qb).raw
+pub b_wins : (a qa b qb : ℕ) → qa < qb → b ≡ (uncalled a qa b qb).raw
 b_wins a qa b qb h = rw (lt-ltb qa qb h) at (raw a qa b qb)
 
-a_wins : (a qa b qb : ℕ) → qb ≤ qa → a ≡ (uncalled a qa b qb).raw
+pub a_wins : (a qa b qb : ℕ) → qb ≤ qa → a ≡ (uncalled a qa b qb).raw
 a_wins a qa b qb h = rw (le-ltb qa qb h) at (raw a qa b qb)
-
-pub returns-then-a_qual-b_qual : goal.returns-then-a_qual-b_qual
-returns-then-a_qual-b_qual c = b_wins _ _ _ _ c.if-a_qual-b_qual.true
-
-pub returns-else-a_qual-b_qual : goal.returns-else-a_qual-b_qual
-returns-else-a_qual-b_qual c = a_wins _ _ _ _ c.if-a_qual-b_qual.false
