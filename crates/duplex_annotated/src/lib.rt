@@ -1,38 +1,27 @@
-// Two strands that may be annotated, combined position by position, from duplex_caller.rs (combine_strands). Uses methylation,
-// vanilla_caller, duplex_molecule, duplex_arrays, duplex_evidence, duplex_outputs and duplex_strands.
+// Two strands that may be annotated, combined position by position, from duplex_caller.rs (combine_strands). Uses lists, refusals,
+// methylation, vanilla_caller, duplex_molecule, duplex_arrays, duplex_evidence, duplex_outputs and duplex_strands.
 #![tactic(auto)]
 
-ghost use Rattle.vanilla_caller.specs.Strand.{arrays};
+ghost use Rattle.vanilla_caller.specs.Strand.{arrays_in};
 ghost use Rattle.duplex_molecule.specs.Molecule.{ct_input};
 ghost use Rattle.duplex_outputs.specs.Outputs.{record_of};
 ghost use Rattle.duplex_strands.specs.Combine.{CombinedAs};
 
-use duplex_arrays::{write_called_positions, write_errors};
+use duplex_arrays::{write_errors, write_positions};
 use duplex_evidence::write_evidence;
 use duplex_molecule::ct_input;
 use duplex_outputs::RecordLengths;
-use duplex_strands::{Combined, combine_refusal, common_length};
-use methylation::{Annotation, EvidenceLengths};
-use vanilla_caller::lengths_of;
+use duplex_strands::combined_length;
+use methylation::EvidenceLengths;
+use refusals::Refusal;
+use vanilla_caller::VanillaConsensusRead;
 
 // Combines strands that may be annotated. Evidence is written of annotated strands only. Refuses by 7, 8, 12.
+// Of a list only whether there is one counts here.
+// Lent outputs stay apart: the borrow checker has no rule for a struct of them that is passed on.
 pub fn combine_strands_annotated(
-    a_bases: &[u8],
-    a_quals: &[u8],
-    a_depths: &[u16],
-    a_errors: &[u16],
-    a_annotation: Annotation,
-    a_marks: &[u8],
-    a_unconverted: &[u32],
-    a_converted: &[u32],
-    b_bases: &[u8],
-    b_quals: &[u8],
-    b_depths: &[u16],
-    b_errors: &[u16],
-    b_annotation: Annotation,
-    b_marks: &[u8],
-    b_unconverted: &[u32],
-    b_converted: &[u32],
+    a: VanillaConsensusRead,
+    b: VanillaConsensusRead,
     listed: bool,
     bases_out: &mut [u8],
     quals_out: &mut [u8],
@@ -43,34 +32,13 @@ pub fn combine_strands_annotated(
     b_marks_out: &mut [u8],
     b_unconverted_out: &mut [u32],
     b_converted_out: &mut [u32],
-) -> Combined
-    ensures { CombinedAs (ct_input a_annotation b_annotation) a_annotation
-        (arrays a_bases.now a_quals.now a_depths.now a_errors.now a_marks.now a_unconverted.now a_converted.now)
-        b_annotation
-        (arrays b_bases.now b_quals.now b_depths.now b_errors.now b_marks.now b_unconverted.now b_converted.now)
+) -> Result<usize, Refusal>
+    ensures { CombinedAs (ct_input a.entry.annotation b.entry.annotation) a.entry.annotation (arrays_in a.entry) b.entry.annotation (arrays_in b.entry)
         listed
         (record_of bases_out.old quals_out.old errors_out.old a_marks_out.old a_unconverted_out.old a_converted_out.old b_marks_out.old b_unconverted_out.old b_converted_out.old)
         (record_of bases_out.new quals_out.new errors_out.new a_marks_out.new a_unconverted_out.new a_converted_out.new b_marks_out.new b_unconverted_out.new b_converted_out.new)
         result }
 {
-    let a = lengths_of(
-        a_bases,
-        a_quals,
-        a_depths,
-        a_errors,
-        a_marks,
-        a_unconverted,
-        a_converted,
-    );
-    let b = lengths_of(
-        b_bases,
-        b_quals,
-        b_depths,
-        b_errors,
-        b_marks,
-        b_unconverted,
-        b_converted,
-    );
     let out = RecordLengths {
         bases: bases_out.len(),
         quals: quals_out.len(),
@@ -86,42 +54,29 @@ pub fn combine_strands_annotated(
             converted: b_converted_out.len(),
         },
     };
-    let number = combine_refusal(a_annotation, a, b_annotation, b, out);
-    if number != 0 {
-        return Combined::Refused(number);
-    }
-    let n = common_length(a, b);
-    let ct = ct_input(a_annotation, b_annotation);
-    write_called_positions(
-        ct, a_bases, a_quals, a_marks, b_bases, b_quals, b_marks, n, bases_out, quals_out,
-    );
-    write_errors(
-        ct, listed, a_bases, a_quals, a_depths, a_errors, b_bases, b_quals, b_depths, b_errors, n,
-        errors_out,
-    );
+    let n = combined_length(a.annotation, a.lengths(), b.annotation, b.lengths(), out)?;
+    let ct = ct_input(a.annotation, b.annotation);
+    write_positions(ct, a, b, n, bases_out, quals_out);
+    write_errors(ct, listed, a, b, n, errors_out);
     write_evidence(
-        a_annotation,
         ct,
-        a_bases,
-        b_bases,
-        a_unconverted,
-        a_converted,
+        a,
+        b,
+        a,
         n,
         a_marks_out,
         a_unconverted_out,
         a_converted_out,
     );
     write_evidence(
-        b_annotation,
         ct,
-        a_bases,
-        b_bases,
-        b_unconverted,
-        b_converted,
+        a,
+        b,
+        b,
         n,
         b_marks_out,
         b_unconverted_out,
         b_converted_out,
     );
-    Combined::Written(n)
+    Ok(n)
 }

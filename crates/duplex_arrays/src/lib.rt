@@ -2,165 +2,136 @@
 // errors without source reads. Uses lists, refusals, vanilla_caller, duplex_molecule, duplex_position and duplex_call.
 #![tactic(auto)]
 
-ghost use Rattle.std.specs.Prelude.{◌≡◌, false, [], ◌∷◌, ◌≤◌, length};
+ghost use Rattle.std.specs.Prelude.{◌≡◌, false, [], ◌∷◌, ◌≤◌, ◌<◌, length, get_or};
 ghost use Rattle.lists.specs.Output.{put};
-ghost use Rattle.vanilla_caller.specs.Strand.{arrays};
+ghost use Rattle.vanilla_caller.specs.Strand.{arrays_in};
 ghost use Rattle.duplex_molecule.specs.declared.CtInput.TheVariants.{Neither};
 ghost use Rattle.duplex_arrays.specs.Positions.{combined_bases, combined_quals, estimates, arrays_short, PositionsAs, ErrorsAs};
 
-use duplex_call::{combine_annotated, estimate_errors, estimate_uncalled};
+use duplex_call::{CountedBase, MarkedBase, combine_annotated, estimate_errors};
 use duplex_molecule::{CtInput, can_call};
-use duplex_position::combine_bases;
-use lists::fill_u16;
+use duplex_position::{StrandBase, combine_bases};
+use vanilla_caller::{Lengths, VanillaConsensusRead};
+
+// What a strand shows at a position.
+fn base_at(s: VanillaConsensusRead, i: usize) -> StrandBase
+    requires i_in_bounds { (i < length s.bases.now) × (i < length s.quals.now) }
+    ensures { result ≡ record { base = get_or s.entry.bases.now i 0; qual = get_or s.entry.quals.now i 0 } }
+{
+    StrandBase {
+        base: s.bases[i],
+        qual: s.quals[i],
+    }
+}
+
+fn marked_at(s: VanillaConsensusRead, i: usize) -> MarkedBase
+    requires i_in_bounds { (i < length s.bases.now) × (i < length s.quals.now) × (i < length s.evidence.marks.now) }
+    ensures shown { result.shown ≡ record { base = get_or s.entry.bases.now i 0; qual = get_or s.entry.quals.now i 0 } }
+    ensures mark { result.mark ≡ get_or s.entry.evidence.marks.now i 0 }
+{
+    MarkedBase {
+        shown: base_at(s, i),
+        mark: s.evidence.marks[i],
+    }
+}
+
+fn counted_at(s: VanillaConsensusRead, i: usize) -> CountedBase
+    requires i_in_bounds { (i < length s.bases.now) × (i < length s.quals.now) × (i < length s.depths.now) × (i < length s.errors.now) }
+    ensures shown { result.shown ≡ record { base = get_or s.entry.bases.now i 0; qual = get_or s.entry.quals.now i 0 } }
+    ensures depth { result.depth ≡ get_or s.entry.depths.now i 0 }
+    ensures errors { result.errors ≡ get_or s.entry.errors.now i 0 }
+{
+    CountedBase {
+        shown: base_at(s, i),
+        depth: s.depths[i],
+        errors: s.errors[i],
+    }
+}
 
 // Whether one of these lengths is below n. Marks count where there may be calls.
+#[tactic(auto, unfolding(crate::specs::Positions::arrays_short))]
 fn positions_short(
     n: usize,
     calls: bool,
-    a_marks: usize,
-    b_marks: usize,
-    a_bases: usize,
-    a_quals: usize,
-    b_bases: usize,
-    b_quals: usize,
+    a: Lengths,
+    b: Lengths,
     bases_out: usize,
     quals_out: usize,
 ) -> bool
-    ensures { result ≡ arrays_short n calls (a_marks ∷ b_marks ∷ []) (a_bases ∷ a_quals ∷ b_bases ∷ b_quals ∷ bases_out ∷ quals_out ∷ []) }
+    ensures { result ≡ arrays_short n calls (a.evidence.marks ∷ b.evidence.marks ∷ []) (a.bases ∷ a.quals ∷ b.bases ∷ b.quals ∷ bases_out ∷ quals_out ∷ []) }
 {
-    let marks = (a_marks < n) | (b_marks < n);
-    let others = (a_bases < n)
-        | ((a_quals < n) | ((b_bases < n) | ((b_quals < n) | ((bases_out < n) | (quals_out < n)))));
+    let marks = (a.evidence.marks < n) | (b.evidence.marks < n);
+    let others = (a.bases < n)
+        | ((a.quals < n) | ((b.bases < n) | ((b.quals < n) | ((bases_out < n) | (quals_out < n)))));
     (calls & marks) | others
 }
 
-fn errors_short(
-    n: usize,
-    a_bases: usize,
-    a_quals: usize,
-    a_depths: usize,
-    a_errors: usize,
-    b_bases: usize,
-    b_quals: usize,
-    b_depths: usize,
-    b_errors: usize,
-    errors_out: usize,
-) -> bool
-    ensures { result ≡ arrays_short n false [] (a_bases ∷ a_quals ∷ a_depths ∷ a_errors ∷ b_bases ∷ b_quals ∷ b_depths ∷ b_errors ∷ errors_out ∷ []) }
+#[tactic(auto, unfolding(crate::specs::Positions::arrays_short))]
+fn errors_short(n: usize, a: Lengths, b: Lengths, errors_out: usize) -> bool
+    ensures { result ≡ arrays_short n false [] (a.bases ∷ a.quals ∷ a.depths ∷ a.errors ∷ b.bases ∷ b.quals ∷ b.depths ∷ b.errors ∷ errors_out ∷ []) }
 {
-    (a_bases < n)
-        | ((a_quals < n)
-            | ((a_depths < n)
-                | ((a_errors < n)
-                    | ((b_bases < n)
-                        | ((b_quals < n)
-                            | ((b_depths < n) | ((b_errors < n) | (errors_out < n))))))))
+    let ours = (a.bases < n) | ((a.quals < n) | ((a.depths < n) | (a.errors < n)));
+    let others = (b.bases < n) | ((b.quals < n) | ((b.depths < n) | (b.errors < n)));
+    ours | (others | (errors_out < n))
 }
 
 // Base and quality of each of the first n positions, where there are no calls.
+#[tactic(auto, using(lists::proofs::Output::begin, lists::proofs::Table::length_tabulate, lists::proofs::Told::next_table), unfolding(crate::specs::Positions::combined_bases, crate::specs::Positions::combined_quals, duplex_call::specs::Annotated::combined, duplex_molecule::specs::Molecule::call_at))]
 fn fill_positions(
-    a_bases: &[u8],
-    a_quals: &[u8],
-    b_bases: &[u8],
-    b_quals: &[u8],
+    a: VanillaConsensusRead,
+    b: VanillaConsensusRead,
     n: usize,
     bases_out: &mut [u8],
     quals_out: &mut [u8],
 )
-    requires n_in_bounds { (n ≤ length a_bases.now) × (n ≤ length a_quals.now) }
-    requires n_in_bounds_2 { (n ≤ length b_bases.now) × (n ≤ length b_quals.now) }
+    requires n_in_bounds { (n ≤ length a.bases.now) × (n ≤ length a.quals.now) }
+    requires n_in_bounds_2 { (n ≤ length b.bases.now) × (n ≤ length b.quals.now) }
     requires n_in_bounds_3 { (n ≤ length bases_out.old) × (n ≤ length quals_out.old) }
-    ensures bases_out_after { bases_out.new ≡ put (combined_bases n Neither (arrays a_bases.now a_quals.now [] [] [] [] []) (arrays b_bases.now b_quals.now [] [] [] [] [])) bases_out.old }
-    ensures quals_out_after { quals_out.new ≡ put (combined_quals n Neither (arrays a_bases.now a_quals.now [] [] [] [] []) (arrays b_bases.now b_quals.now [] [] [] [] [])) quals_out.old }
+    ensures bases_out_after { bases_out.new ≡ put (combined_bases n Neither (arrays_in a.entry) (arrays_in b.entry)) bases_out.old }
+    ensures quals_out_after { quals_out.new ≡ put (combined_quals n Neither (arrays_in a.entry) (arrays_in b.entry)) quals_out.old }
 {
-    let mut i = 0;
-    while i < n {
-        let p = combine_bases(a_bases[i], a_quals[i], b_bases[i], b_quals[i]);
+    for i in 0..n {
+        let p = combine_bases(base_at(a, i), base_at(b, i));
         bases_out[i] = p.base;
         quals_out[i] = p.qual;
-        i += 1;
     }
 }
 
 // The same where there may be.
+#[tactic(auto, using(lists::proofs::Output::begin, lists::proofs::Table::length_tabulate, lists::proofs::Told::next_table), unfolding(crate::specs::Positions::combined_bases, crate::specs::Positions::combined_quals))]
 fn fill_called_positions(
     ct: CtInput,
-    a_bases: &[u8],
-    a_quals: &[u8],
-    a_marks: &[u8],
-    b_bases: &[u8],
-    b_quals: &[u8],
-    b_marks: &[u8],
+    a: VanillaConsensusRead,
+    b: VanillaConsensusRead,
     n: usize,
     bases_out: &mut [u8],
     quals_out: &mut [u8],
 )
-    requires n_in_bounds { (n ≤ length a_bases.now) × (n ≤ length a_quals.now) × (n ≤ length a_marks.now) }
-    requires n_in_bounds_2 { (n ≤ length b_bases.now) × (n ≤ length b_quals.now) × (n ≤ length b_marks.now) }
+    requires n_in_bounds { (n ≤ length a.bases.now) × (n ≤ length a.quals.now) × (n ≤ length a.evidence.marks.now) }
+    requires n_in_bounds_2 { (n ≤ length b.bases.now) × (n ≤ length b.quals.now) × (n ≤ length b.evidence.marks.now) }
     requires n_in_bounds_3 { (n ≤ length bases_out.old) × (n ≤ length quals_out.old) }
-    ensures bases_out_after { bases_out.new ≡ put (combined_bases n ct (arrays a_bases.now a_quals.now [] [] a_marks.now [] []) (arrays b_bases.now b_quals.now [] [] b_marks.now [] [])) bases_out.old }
-    ensures quals_out_after { quals_out.new ≡ put (combined_quals n ct (arrays a_bases.now a_quals.now [] [] a_marks.now [] []) (arrays b_bases.now b_quals.now [] [] b_marks.now [] [])) quals_out.old }
+    ensures bases_out_after { bases_out.new ≡ put (combined_bases n ct (arrays_in a.entry) (arrays_in b.entry)) bases_out.old }
+    ensures quals_out_after { quals_out.new ≡ put (combined_quals n ct (arrays_in a.entry) (arrays_in b.entry)) quals_out.old }
 {
-    let mut i = 0;
-    while i < n {
-        let called = combine_annotated(
-            ct, a_bases[i], a_quals[i], a_marks[i], b_bases[i], b_quals[i], b_marks[i],
-        );
+    for i in 0..n {
+        let called = combine_annotated(ct, marked_at(a, i), marked_at(b, i));
         bases_out[i] = called.base;
         quals_out[i] = called.qual;
-        i += 1;
     }
 }
 
-// Writes base and quality of the first n positions of strands without calls; nothing where an array is shorter than n.
+// Writes base and quality of the first n positions; nothing where an array is shorter than n. Marks are looked at only where
+// there may be calls.
+#[tactic(auto, using(crate::proofs::Positions::without_calls, lists::proofs::Output::put_none), unfolding(crate::specs::Positions::arrays_short, crate::specs::Positions::unless_short))]
 pub fn write_positions(
-    a_bases: &[u8],
-    a_quals: &[u8],
-    b_bases: &[u8],
-    b_quals: &[u8],
-    n: usize,
-    bases_out: &mut [u8],
-    quals_out: &mut [u8],
-)
-    ensures { PositionsAs n Neither
-        (arrays a_bases.now a_quals.now [] [] [] [] [])
-        (arrays b_bases.now b_quals.now [] [] [] [] [])
-        bases_out.old quals_out.old
-        bases_out.new quals_out.new }
-{
-    if positions_short(
-        n,
-        false,
-        0,
-        0,
-        a_bases.len(),
-        a_quals.len(),
-        b_bases.len(),
-        b_quals.len(),
-        bases_out.len(),
-        quals_out.len(),
-    ) {
-        return;
-    }
-    fill_positions(a_bases, a_quals, b_bases, b_quals, n, bases_out, quals_out);
-}
-
-// The same of strands that may have calls; marks are looked at only then.
-pub fn write_called_positions(
     ct: CtInput,
-    a_bases: &[u8],
-    a_quals: &[u8],
-    a_marks: &[u8],
-    b_bases: &[u8],
-    b_quals: &[u8],
-    b_marks: &[u8],
+    a: VanillaConsensusRead,
+    b: VanillaConsensusRead,
     n: usize,
     bases_out: &mut [u8],
     quals_out: &mut [u8],
 )
-    ensures { PositionsAs n ct
-        (arrays a_bases.now a_quals.now [] [] a_marks.now [] [])
-        (arrays b_bases.now b_quals.now [] [] b_marks.now [] [])
+    ensures { PositionsAs n ct (arrays_in a.entry) (arrays_in b.entry)
         bases_out.old quals_out.old
         bases_out.new quals_out.new }
 {
@@ -168,144 +139,61 @@ pub fn write_called_positions(
     if positions_short(
         n,
         calls,
-        a_marks.len(),
-        b_marks.len(),
-        a_bases.len(),
-        a_quals.len(),
-        b_bases.len(),
-        b_quals.len(),
+        a.lengths(),
+        b.lengths(),
         bases_out.len(),
         quals_out.len(),
     ) {
         return;
     }
     if calls {
-        fill_called_positions(
-            ct, a_bases, a_quals, a_marks, b_bases, b_quals, b_marks, n, bases_out, quals_out,
-        );
-        return;
+        fill_called_positions(ct, a, b, n, bases_out, quals_out);
+    } else {
+        fill_positions(a, b, n, bases_out, quals_out);
     }
-    fill_positions(a_bases, a_quals, b_bases, b_quals, n, bases_out, quals_out);
 }
 
-// The errors' estimate of each of the first n positions, where there are no calls.
+// The errors' estimate of each of the first n positions.
+#[tactic(auto, using(lists::proofs::Output::begin, lists::proofs::Table::length_tabulate, lists::proofs::Told::next_table), unfolding(crate::specs::Positions::estimates))]
 fn fill_estimates(
-    a_bases: &[u8],
-    a_quals: &[u8],
-    a_depths: &[u16],
-    a_errors: &[u16],
-    b_bases: &[u8],
-    b_quals: &[u8],
-    b_depths: &[u16],
-    b_errors: &[u16],
-    n: usize,
-    errors_out: &mut [u16],
-)
-    requires n_in_bounds { (n ≤ length a_bases.now) × (n ≤ length a_quals.now) × (n ≤ length a_depths.now) × (n ≤ length a_errors.now) }
-    requires n_in_bounds_2 { (n ≤ length b_bases.now) × (n ≤ length b_quals.now) × (n ≤ length b_depths.now) × (n ≤ length b_errors.now) }
-    requires n_in_bounds_3 { n ≤ length errors_out.old }
-    ensures { errors_out.new ≡ put (estimates n Neither (arrays a_bases.now a_quals.now a_depths.now a_errors.now [] [] []) (arrays b_bases.now b_quals.now b_depths.now b_errors.now [] [] [])) errors_out.old }
-{
-    let mut i = 0;
-    while i < n {
-        errors_out[i] = estimate_uncalled(
-            a_bases[i],
-            a_quals[i],
-            a_depths[i],
-            a_errors[i],
-            b_bases[i],
-            b_quals[i],
-            b_depths[i],
-            b_errors[i],
-        );
-        i += 1;
-    }
-}
-
-// The same where there may be.
-fn fill_called_estimates(
     ct: CtInput,
-    a_bases: &[u8],
-    a_quals: &[u8],
-    a_depths: &[u16],
-    a_errors: &[u16],
-    b_bases: &[u8],
-    b_quals: &[u8],
-    b_depths: &[u16],
-    b_errors: &[u16],
+    a: VanillaConsensusRead,
+    b: VanillaConsensusRead,
     n: usize,
     errors_out: &mut [u16],
 )
-    requires n_in_bounds { (n ≤ length a_bases.now) × (n ≤ length a_quals.now) × (n ≤ length a_depths.now) × (n ≤ length a_errors.now) }
-    requires n_in_bounds_2 { (n ≤ length b_bases.now) × (n ≤ length b_quals.now) × (n ≤ length b_depths.now) × (n ≤ length b_errors.now) }
+    requires n_in_bounds { (n ≤ length a.bases.now) × (n ≤ length a.quals.now) × (n ≤ length a.depths.now) × (n ≤ length a.errors.now) }
+    requires n_in_bounds_2 { (n ≤ length b.bases.now) × (n ≤ length b.quals.now) × (n ≤ length b.depths.now) × (n ≤ length b.errors.now) }
     requires n_in_bounds_3 { n ≤ length errors_out.old }
-    ensures { errors_out.new ≡ put (estimates n ct (arrays a_bases.now a_quals.now a_depths.now a_errors.now [] [] []) (arrays b_bases.now b_quals.now b_depths.now b_errors.now [] [] [])) errors_out.old }
+    ensures { errors_out.new ≡ put (estimates n ct (arrays_in a.entry) (arrays_in b.entry)) errors_out.old }
 {
-    let mut i = 0;
-    while i < n {
-        errors_out[i] = estimate_errors(
-            ct,
-            a_bases[i],
-            a_quals[i],
-            a_depths[i],
-            a_errors[i],
-            b_bases[i],
-            b_quals[i],
-            b_depths[i],
-            b_errors[i],
-        );
-        i += 1;
+    for i in 0..n {
+        errors_out[i] = estimate_errors(ct, counted_at(a, i), counted_at(b, i));
     }
 }
 
 // Writes the errors of the first n positions: 0 where reads are listed, which are counted later, else the estimate; nothing
 // where an array is shorter than n.
+// Of a list only whether there is one counts here.
+#[tactic(auto, using(lists::proofs::Output::put_none), unfolding(crate::specs::Positions::arrays_short, crate::specs::Positions::unless_short, crate::specs::Positions::combined_errors))]
 pub fn write_errors(
     ct: CtInput,
     listed: bool,
-    a_bases: &[u8],
-    a_quals: &[u8],
-    a_depths: &[u16],
-    a_errors: &[u16],
-    b_bases: &[u8],
-    b_quals: &[u8],
-    b_depths: &[u16],
-    b_errors: &[u16],
+    a: VanillaConsensusRead,
+    b: VanillaConsensusRead,
     n: usize,
     errors_out: &mut [u16],
 )
-    ensures { ErrorsAs listed n ct
-        (arrays a_bases.now a_quals.now a_depths.now a_errors.now [] [] [])
-        (arrays b_bases.now b_quals.now b_depths.now b_errors.now [] [] [])
+    ensures { ErrorsAs listed n ct (arrays_in a.entry) (arrays_in b.entry)
         errors_out.old
         errors_out.new }
 {
-    if errors_short(
-        n,
-        a_bases.len(),
-        a_quals.len(),
-        a_depths.len(),
-        a_errors.len(),
-        b_bases.len(),
-        b_quals.len(),
-        b_depths.len(),
-        b_errors.len(),
-        errors_out.len(),
-    ) {
+    if errors_short(n, a.lengths(), b.lengths(), errors_out.len()) {
         return;
     }
     if listed {
-        fill_u16(0, &mut errors_out[0..n]);
-        return;
+        errors_out[..n].fill(0);
+    } else {
+        fill_estimates(ct, a, b, n, errors_out);
     }
-    if can_call(ct) {
-        fill_called_estimates(
-            ct, a_bases, a_quals, a_depths, a_errors, b_bases, b_quals, b_depths, b_errors, n,
-            errors_out,
-        );
-        return;
-    }
-    fill_estimates(
-        a_bases, a_quals, a_depths, a_errors, b_bases, b_quals, b_depths, b_errors, n, errors_out,
-    );
 }

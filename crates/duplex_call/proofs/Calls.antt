@@ -5,18 +5,16 @@ use mathlib.Core.Bool.{Bool, true, false, cond, ◌&&◌, ◌||◌, true≢false
 use lib.Dec.{eqb}
 use borrow.Author.Tests.{eqb-true}
 use Rattle.dna.specs.Dna.{letter_a, letter_c, letter_g, letter_t, upper}
-use Rattle.methylation.specs.declared.Annotation.{Annotation}
-use Rattle.methylation.specs.declared.Annotation.TheVariants.{Absent, Of}
 use Rattle.methylation.specs.declared.ConversionPattern.TheVariants.{CToT, GToA}
-use Rattle.duplex_molecule.specs.Molecule.{molecule_call, call_at, is_call, is_call_of, can_call}
+use Rattle.duplex_molecule.specs.Molecule.{molecule_call, call_as, call_at, is_call, is_call_of, can_call, same_pattern}
 use Rattle.duplex_molecule.specs.declared.CtInput.{CtInput}
 use Rattle.duplex_molecule.specs.declared.CtInput.TheVariants.{Neither, IsA, IsB}
 use Rattle.duplex_molecule.specs.declared.MoleculeCall.{MoleculeCall}
-use Rattle.duplex_molecule.specs.declared.MoleculeCall.TheVariants.{NoCall, Call}
 use Rattle.duplex_position.specs.Combination.{uncalled}
-use Rattle.duplex_position.specs.declared.Position.{Position}
 use Rattle.duplex_call.specs.Annotated.{by_call, combined, shown, expected}
 use Rattle.duplex_call.specs.Tests.{is_b, of_pattern, at_call}
+use Rattle.std.proofs.Common.{None, Some, Option}
+use Rattle.methylation.specs.declared.ConversionPattern.{ConversionPattern}
 
 -- The tests of a C-to-T call and of a G-to-A call, of the C-to-T strand's base and the other's.
 abbrev pub c_test : ℕ → ℕ → Bool
@@ -26,8 +24,8 @@ abbrev pub g_test : ℕ → ℕ → Bool
 g_test ct ga = eqb (upper ct) letter_g && (eqb (upper ga) letter_g || eqb (upper ga) letter_a)
 
 -- What the two tests make a call.
-abbrev made : ℕ → ℕ → Bool → Bool → MoleculeCall
-made ct ga c g = cond c (Call CToT ct letter_c) (cond g (Call GToA ga letter_g) NoCall)
+abbrev made : ℕ → ℕ → Bool → Bool → Option MoleculeCall
+made ct ga c g = cond c (Some (call_as CToT ct letter_c)) (cond g (Some (call_as GToA ga letter_g)) None)
 
 -- The tests never both hold.
 apart : (ct ga : ℕ) → c_test ct ga ≡ true → g_test ct ga ≡ false
@@ -44,65 +42,67 @@ apart ct ga = by (upper ct) (eqb (upper ga) letter_c) (eqb (upper ga) letter_g |
     by : (u : ℕ) (p q : Bool) → (p && (eqb u letter_c || eqb u letter_t)) ≡ true → (eqb u letter_g && q) ≡ false
     by u p q = told u p q (eqb u letter_g) refl
 
--- A position is chosen with all its fields.
-pub chosen : (first : Bool) (a b : Position) → record { base = cond first a.base b.base; qual = cond first a.qual b.qual; raw = cond first a.raw b.raw } ≡ cond first a b
-chosen true a b = refl
-chosen false a b = refl
-
 -- Whether there is a call of either pattern.
-pub c_to_t : (ct : CtInput) (a b : ℕ) → (can_call ct && c_test (cond (is_b ct) b a) (cond (is_b ct) a b)) ≡ is_call_of (Of CToT) (call_at ct a b)
+pub c_to_t : (ct : CtInput) (a b : ℕ) → (can_call ct && c_test (cond (is_b ct) b a) (cond (is_b ct) a b)) ≡ is_call_of (Some CToT) (call_at ct a b)
 unfolding call_at molecule_call is_call_of
 c_to_t ct a b = of ct
   where
-    go : (x y : ℕ) (c g : Bool) → c ≡ is_call_of (Of CToT) (made x y c g)
+    go : (x y : ℕ) (c g : Bool) → c ≡ is_call_of (Some CToT) (made x y c g)
     go x y true g = refl
     go x y false true = refl
     go x y false false = refl
 
-    of : (ct : CtInput) → (can_call ct && c_test (cond (is_b ct) b a) (cond (is_b ct) a b)) ≡ is_call_of (Of CToT) (call_at ct a b)
+    of : (ct : CtInput) → (can_call ct && c_test (cond (is_b ct) b a) (cond (is_b ct) a b)) ≡ is_call_of (Some CToT) (call_at ct a b)
     of Neither = refl
     of IsA = go a b (c_test a b) (g_test a b)
     of IsB = go b a (c_test b a) (g_test b a)
 
-pub g_to_a : (ct : CtInput) (a b : ℕ) → (can_call ct && g_test (cond (is_b ct) b a) (cond (is_b ct) a b)) ≡ is_call_of (Of GToA) (call_at ct a b)
+pub g_to_a : (ct : CtInput) (a b : ℕ) → (can_call ct && g_test (cond (is_b ct) b a) (cond (is_b ct) a b)) ≡ is_call_of (Some GToA) (call_at ct a b)
 unfolding call_at molecule_call is_call_of
 g_to_a ct a b = of ct
   where
-    go : (x y : ℕ) (c g : Bool) → (c ≡ true → g ≡ false) → g ≡ is_call_of (Of GToA) (made x y c g)
+    go : (x y : ℕ) (c g : Bool) → (c ≡ true → g ≡ false) → g ≡ is_call_of (Some GToA) (made x y c g)
     go x y true g h = h refl
     go x y false true h = refl
     go x y false false h = refl
 
-    of : (ct : CtInput) → (can_call ct && g_test (cond (is_b ct) b a) (cond (is_b ct) a b)) ≡ is_call_of (Of GToA) (call_at ct a b)
+    of : (ct : CtInput) → (can_call ct && g_test (cond (is_b ct) b a) (cond (is_b ct) a b)) ≡ is_call_of (Some GToA) (call_at ct a b)
     of Neither = refl
     of IsA = go a b (c_test a b) (g_test a b) (apart a b)
     of IsB = go b a (c_test b a) (g_test b a) (apart b a)
 
-pub either : (x : MoleculeCall) → (is_call_of (Of CToT) x || is_call_of (Of GToA) x) ≡ is_call x
+pub either : (x : Option MoleculeCall) → (is_call_of (Some CToT) x || is_call_of (Some GToA) x) ≡ is_call x
 unfolding is_call_of
-either NoCall = refl
-either (Call CToT call confirmed) = refl
-either (Call GToA call confirmed) = refl
+either None = refl
+either (Some call) = of call.pattern
+  where
+    of : (p : ConversionPattern) → (same_pattern CToT p || same_pattern GToA p) ≡ true
+    of CToT = refl
+    of GToA = refl
 
 -- Whether a strand keeps its evidence.
-pub kept : (annotation : Annotation) (x : MoleculeCall) → ((of_pattern CToT annotation && is_call_of (Of CToT) x) || (of_pattern GToA annotation && is_call_of (Of GToA) x)) ≡ is_call_of annotation x
+pub kept :
+    (annotation : Option ConversionPattern) (x : Option MoleculeCall)
+    → ((of_pattern CToT annotation && is_call_of (Some CToT) x) || (of_pattern GToA annotation && is_call_of (Some GToA) x)) ≡ is_call_of annotation x
 unfolding is_call_of
-kept Absent x = refl
-kept (Of CToT) NoCall = refl
-kept (Of CToT) (Call CToT call confirmed) = refl
-kept (Of CToT) (Call GToA call confirmed) = refl
-kept (Of GToA) NoCall = refl
-kept (Of GToA) (Call CToT call confirmed) = refl
-kept (Of GToA) (Call GToA call confirmed) = refl
+kept None x = refl
+kept (Some CToT) None = refl
+kept (Some GToA) None = refl
+kept (Some CToT) (Some call) = of call.pattern
+  where
+    of : (p : ConversionPattern) → (same_pattern CToT p || false) ≡ same_pattern CToT p
+    of CToT = refl
+    of GToA = refl
+kept (Some GToA) (Some call) = refl
 
 -- The position by the tests is the position by the call.
-abbrev Placed : CtInput → ℕ → ℕ → ℕ → ℕ → ℕ → ℕ → MoleculeCall → Type 0
+abbrev Placed : CtInput → ℕ → ℕ → ℕ → ℕ → ℕ → ℕ → Option MoleculeCall → Type 0
 Placed ct a qa ma b qb mb x =
-    cond (is_call_of (Of CToT) x || is_call_of (Of GToA) x) (at_call (is_call_of (Of CToT) x) (is_b ct) a qa ma b qb mb) (uncalled a qa b qb) ≡ by_call ct a qa ma b qb mb x
+    cond (is_call_of (Some CToT) x || is_call_of (Some GToA) x) (at_call (is_call_of (Some CToT) x) (is_b ct) a qa ma b qb mb) (uncalled a qa b qb) ≡ by_call ct a qa ma b qb mb x
 
 pub position :
     (ct : CtInput) (a qa ma b qb mb : ℕ)
-    → cond (is_call_of (Of CToT) (call_at ct a b) || is_call_of (Of GToA) (call_at ct a b)) (at_call (is_call_of (Of CToT) (call_at ct a b)) (is_b ct) a qa ma b qb mb) (uncalled a qa b qb) ≡ combined ct a qa ma b qb mb
+    → cond (is_call_of (Some CToT) (call_at ct a b) || is_call_of (Some GToA) (call_at ct a b)) (at_call (is_call_of (Some CToT) (call_at ct a b)) (is_b ct) a qa ma b qb mb) (uncalled a qa b qb) ≡ combined ct a qa ma b qb mb
 unfolding call_at molecule_call is_call_of at_call combined
 position ct a qa ma b qb mb = of ct
   where
@@ -122,13 +122,13 @@ position ct a qa ma b qb mb = of ct
     of IsB = with_b (c_test b a) (g_test b a)
 
 -- So is what a read should show.
-abbrev Expected : CtInput → ℕ → ℕ → Bool → ℕ → MoleculeCall → Type 0
+abbrev Expected : CtInput → ℕ → ℕ → Bool → ℕ → Option MoleculeCall → Type 0
 Expected ct a b last raw x =
-    cond (is_call_of (Of CToT) x) (cond last letter_c (cond (is_b ct) b a)) (cond (is_call_of (Of GToA) x) (cond last (cond (is_b ct) a b) letter_g) raw) ≡ shown last raw x
+    cond (is_call_of (Some CToT) x) (cond last letter_c (cond (is_b ct) b a)) (cond (is_call_of (Some GToA) x) (cond last (cond (is_b ct) a b) letter_g) raw) ≡ shown last raw x
 
 pub expects :
     (ct : CtInput) (a qa b qb : ℕ) (last : Bool)
-    → cond (is_call_of (Of CToT) (call_at ct a b)) (cond last letter_c (cond (is_b ct) b a)) (cond (is_call_of (Of GToA) (call_at ct a b)) (cond last (cond (is_b ct) a b) letter_g) (uncalled a qa b qb).raw) ≡ expected ct a qa b qb last
+    → cond (is_call_of (Some CToT) (call_at ct a b)) (cond last letter_c (cond (is_b ct) b a)) (cond (is_call_of (Some GToA) (call_at ct a b)) (cond last (cond (is_b ct) a b) letter_g) (uncalled a qa b qb).raw) ≡ expected ct a qa b qb last
 unfolding call_at molecule_call is_call_of expected
 expects ct a qa b qb last = of ct
   where

@@ -1,6 +1,6 @@
 -- One position of two strands that may be annotated, document 01: base and quality, the errors' estimate, and what a source read
 -- should show.
-use Rattle.std.specs.Prelude.{ℕ, Bool, false, cond, ◌&&◌, eqb, ltb}
+use Rattle.std.specs.Prelude.{ℕ, Bool, false, cond, ◌&&◌, Option, None, Some, eqb, ltb}
 use Rattle.dna.specs.Dna.{same_letter}
 use Rattle.methylation.specs.Methylation.{pattern_bases}
 use Rattle.methylation.specs.declared.ConversionPattern.{ConversionPattern}
@@ -9,7 +9,6 @@ use Rattle.duplex_molecule.specs.Molecule.{call_at, is_call, same_pattern}
 use Rattle.duplex_molecule.specs.declared.CtInput.{CtInput}
 use Rattle.duplex_molecule.specs.declared.CtInput.TheVariants.{Neither, IsA, IsB}
 use Rattle.duplex_molecule.specs.declared.MoleculeCall.{MoleculeCall}
-use Rattle.duplex_molecule.specs.declared.MoleculeCall.TheVariants.{NoCall, Call}
 use Rattle.duplex_position.specs.Combination.{uncalled, called}
 use Rattle.duplex_position.specs.declared.Position.{Position}
 use Rattle.duplex_errors.specs.Errors.{agreeing, disagreeing}
@@ -22,11 +21,11 @@ carried_by_a IsB pattern = same_pattern pattern GToA
 
 -- Base and quality of bases a and b with qualities qa and qb and informative marks ma and mb. Where the informative strand
 -- shows the converted base and has no mark, the confirming strand's quality counts alone.
-abbrev pub by_call : CtInput → ℕ → ℕ → ℕ → ℕ → ℕ → ℕ → MoleculeCall → Position
-by_call ct a qa ma b qb mb NoCall = uncalled a qa b qb
-by_call ct a qa ma b qb mb (Call pattern call confirmed) =
-    let from_a = carried_by_a ct pattern in
-    called a qa b qb confirmed (same_letter call (pattern_bases pattern).converted && eqb (cond from_a ma mb) 0) (cond from_a qb qa)
+abbrev pub by_call : CtInput → ℕ → ℕ → ℕ → ℕ → ℕ → ℕ → Option MoleculeCall → Position
+by_call ct a qa ma b qb mb None = uncalled a qa b qb
+by_call ct a qa ma b qb mb (Some c) =
+    let from_a = carried_by_a ct c.pattern in
+    called a qa b qb c.confirmed (same_letter c.call (pattern_bases c.pattern).converted && eqb (cond from_a ma mb) 0) (cond from_a qb qa)
 
 unfoldable pub combined : CtInput → ℕ → ℕ → ℕ → ℕ → ℕ → ℕ → Position
 combined ct a qa ma b qb mb = by_call ct a qa ma b qb mb (call_at ct a b)
@@ -44,9 +43,9 @@ estimated ct a qa da ea b qb db eb = cond (is_call (call_at ct a b)) (agreeing e
 
 -- What a source read should show: without a call the unmasked base; at a call the informative strand's own byte where the read
 -- is of the call's pattern, else the called base. `last` says that the read has the flag 0x80, which is pattern G to A.
-abbrev pub shown : Bool → ℕ → MoleculeCall → ℕ
-shown last raw NoCall = raw
-shown last raw (Call pattern call confirmed) = cond (same_pattern pattern (cond last GToA CToT)) call confirmed
+abbrev pub shown : Bool → ℕ → Option MoleculeCall → ℕ
+shown last raw None = raw
+shown last raw (Some c) = cond (same_pattern c.pattern (cond last GToA CToT)) c.call c.confirmed
 
 unfoldable pub expected : CtInput → ℕ → ℕ → ℕ → ℕ → Bool → ℕ
 expected ct a qa b qb last = shown last (uncalled a qa b qb).raw (call_at ct a b)

@@ -1,8 +1,6 @@
 -- The position at a call, by the tests that tell one: of which pattern it is, and which strand is of pattern C to T.
-use Rattle.std.specs.Prelude.{ℕ, Bool, true, false, cond, not, ◌&&◌, ◌||◌, eqb}
+use Rattle.std.specs.Prelude.{None, Some, Option, ℕ, Bool, true, false, cond, not, ◌&&◌, ◌||◌, eqb}
 use Rattle.dna.specs.Dna.{letter_a, letter_c, letter_g, letter_t, same_letter}
-use Rattle.methylation.specs.declared.Annotation.{Annotation}
-use Rattle.methylation.specs.declared.Annotation.TheVariants.{Absent, Of}
 use Rattle.methylation.specs.declared.ConversionPattern.{ConversionPattern}
 use Rattle.duplex_molecule.specs.Molecule.{same_pattern}
 use Rattle.duplex_molecule.specs.declared.CtInput.{CtInput}
@@ -17,9 +15,9 @@ is_b IsA = false
 is_b IsB = true
 
 -- An annotation is of this pattern.
-abbrev pub of_pattern : ConversionPattern → Annotation → Bool
-of_pattern pattern Absent = false
-of_pattern pattern (Of own) = same_pattern pattern own
+abbrev pub of_pattern : ConversionPattern → Option ConversionPattern → Bool
+of_pattern pattern None = false
+of_pattern pattern (Some own) = same_pattern pattern own
 
 -- B is the informative strand of a call of pattern C to T, or else of G to A.
 abbrev pub by_b : Bool → Bool → Bool

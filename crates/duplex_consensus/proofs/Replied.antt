@@ -1,80 +1,83 @@
--- What the entry promises, by its test of the strands and the record that is made. Where a strand is wrong, the record is made of
--- nothing: no strand is there, and no list.
---     none_made    such a call leaves all as it was
---     replied      the entry's promise
+-- What the entry promises, by the strands as numbers tell of them and the record that is made.
+--     refused_in, read_in   what a strand's numbers say: 13, or the strand
+--     numbered              the record of the strands and the list as the code has them is that of the numbers
 -- Assumes nothing.
-use mathlib.Core.Path.{◌≡◌, sym, subst, ◌∙◌}
-use mathlib.Core.Bool.{Bool, true, false, cond, not, ◌&&◌}
-use mathlib.Core.List.{List}
+use mathlib.Core.Path.{◌≡◌, refl, subst}
+use mathlib.Core.Bool.{Bool, true, false, cond, ◌&&◌}
+use mathlib.Core.List.{[]}
 use Prim.Native.Nat.{ℕ}
-use lib.ListN.{length}
-use Rattle.lists.proofs.Output.{after_none}
-use Rattle.methylation.specs.declared.Annotation.{Annotation}
-use Rattle.replies.proofs.Replied.{turned_down, passed_on}
-use Rattle.vanilla_caller.specs.Strand.{Arrays}
-use Rattle.duplex_outputs.specs.Outputs.{RecordArrays, record_of}
-use Rattle.duplex_kind.specs.Kind.{strand, kind_by}
+use Rattle.std.proofs.Common.{Option, None, Result, Ok, Err, is_some}
+use Rattle.refusals.specs.declared.Refusal.{Refusal}
+use Rattle.refusals.specs.declared.Refusal.TheVariants.{Broken}
+use Rattle.methylation.specs.declared.ConversionPattern.{ConversionPattern}
+use Rattle.methylation.specs.Choices.{annotation_of, wrong_annotation}
+use Rattle.replies.specs.Choices.{yes}
+use Rattle.vanilla_caller.specs.Strand.{Arrays, arrays}
+use Rattle.duplex_outputs.specs.Outputs.{RecordArrays}
+use Rattle.duplex_strands.specs.Combine.{uncounted}
+use Rattle.duplex_kind.specs.Kind.{Strand, strand, given_of, count_in, leaving_in}
 use Rattle.duplex_kind.specs.declared.DuplexConsensus.{DuplexConsensus}
-use Rattle.duplex_kind.specs.declared.DuplexConsensus.TheVariants.{Refused}
-use Rattle.duplex_record.specs.Record.{duplex_refused}
-use Rattle.duplex_reply.specs.Reply.{record_for}
-use Rattle.duplex_reply.specs.declared.DuplexRecord.{DuplexRecord}
-use Rattle.source_reads.specs.Reads.{any_leaves}
-use Rattle.source_reads.specs.declared.SourceRead.{SourceRead}
-use Rattle.duplex_consensus.specs.Consensus.{ConsensusAs, EntryAs}
+use Rattle.duplex_kind.specs.declared.GivenReads.{GivenReads}
+use Rattle.duplex_reply.specs.Strand.{strand_by, wrong_strand}
+use Rattle.duplex_record.specs.Record.{DuplexAs}
+use Rattle.duplex_record.proofs.Absent.{not_looked_at}
+use Rattle.duplex_consensus.specs.Consensus.{given_list}
 
--- Two records are equal by their arrays.
-same_record :
-    {b b' q q' e e' m m' u u' c c' n n' v v' d d' : List ℕ}
-    → b ≡ b' → q ≡ q' → e ≡ e' → m ≡ m' → u ≡ u' → c ≡ c' → n ≡ n' → v ≡ v' → d ≡ d'
-    → record_of b q e m u c n v d ≡ record_of b' q' e' m' u' c' n' v' d'
-same_record f g h i j k l o p = rw (f, g, h, i, j, k, l, o, p)
+abbrev by : Bool → Bool → Option ConversionPattern → Arrays → Result Strand Refusal
+by present wrong annotation x = cond present (cond wrong (Err Broken) (Ok (strand true annotation x))) (Ok (given_of None))
 
-module _ (one other : Annotation) (a b : Arrays) (reads : List SourceRead) (bytes : List ℕ) {before now : RecordArrays} {made : DuplexConsensus} where
-  none_made : ConsensusAs (strand false one a) (strand false other b) false reads bytes before now made → now ≡ before
-  unfolding kind_by
-  none_made x =
-      let e = x.outputs in
-      let number = duplex_refused (strand false one a) (strand false other b) false (length reads) (any_leaves (length bytes) reads) before in
-      same_record
-      (e.bases ∙ sym (after_none number before.bases))
-      (e.quals ∙ sym (after_none number before.quals))
-      (e.errors ∙ sym (after_none number before.errors))
-      (e.a.marks ∙ sym (after_none number before.a.marks))
-      (e.a.unconverted ∙ sym (after_none number before.a.unconverted))
-      (e.a.converted ∙ sym (after_none number before.a.converted))
-      (e.b.marks ∙ sym (after_none number before.b.marks))
-      (e.b.unconverted ∙ sym (after_none number before.b.unconverted))
-      (e.b.converted ∙ sym (after_none number before.b.converted))
+refused_by : (p v : Bool) (m : Option ConversionPattern) (x : Arrays) {e : Refusal} → by p v m x ≡ Err e → ((p && v) ≡ true) × (e ≡ Broken)
+refused_by true true m x h = (refl, cc)
+refused_by true false m x h = absurd cc
+refused_by false v m x h = absurd cc
 
-  moved :
-      {told also : Annotation} {s s' t t' u u' : Bool}
-      → told ≡ one
-      → also ≡ other
-      → s ≡ s'
-      → t ≡ t'
-      → u ≡ u'
-      → ConsensusAs (strand s told a) (strand t also b) u reads bytes before now made
-      → ConsensusAs (strand s' one a) (strand t' other b) u' reads bytes before now made
-  moved {also = also} {s} {s'} {t} {t'} {u} m n i j k x =
-      let x₁ = subst (λ (y : Annotation). ConsensusAs (strand s y a) (strand t also b) u reads bytes before now made) m x in
-      let x₂ = subst (λ (y : Annotation). ConsensusAs (strand s one a) (strand t y b) u reads bytes before now made) n x₁ in
-      let x₃ = subst (λ (y : Bool). ConsensusAs (strand y one a) (strand t other b) u reads bytes before now made) i x₂ in
-      let x₄ = subst (λ (y : Bool). ConsensusAs (strand s' one a) (strand y other b) u reads bytes before now made) j x₃ in
-      subst (λ (y : Bool). ConsensusAs (strand s' one a) (strand t' other b) y reads bytes before now made) k x₄
+pub refused_in : (p m : ℕ) (x : Arrays) {e : Refusal} → strand_by p m x ≡ Err e → (wrong_strand p m ≡ true) × (e ≡ Broken)
+refused_in p m x h = refused_by (yes p) (wrong_annotation m) (annotation_of m) x h
 
-  module _ (p q l : Bool) {s t u w : Bool} {told also : Annotation} {r : DuplexRecord} where
-    pub replied :
-        (wrong : Bool)
-        → wrong ≡ w
-        → s ≡ (not wrong && p)
-        → t ≡ (not wrong && q)
-        → u ≡ (not wrong && l)
-        → told ≡ one
-        → also ≡ other
-        → ConsensusAs (strand s told a) (strand t also b) u reads bytes before now made
-        → r ≡ record_for (cond wrong (Refused 13) made)
-        → EntryAs w (strand p one a) (strand q other b) l reads bytes before now r
-    replied true h i j k m n x e =
-        subst (λ (y : RecordArrays). EntryAs w (strand p one a) (strand q other b) l reads bytes before y r) (sym (none_made (moved m n i j k x))) (turned_down (sym h) e)
-    replied false h i j k m n x e = passed_on made (sym h) e (moved m n i j k x)
+right_by : (p v : Bool) (m : Option ConversionPattern) (x : Arrays) {s : Strand} → by p v m x ≡ Ok s → (p && v) ≡ false
+right_by true true m x h = absurd cc
+right_by true false m x h = refl
+right_by false v m x h = refl
+
+pub read_in : (p m : ℕ) (x : Arrays) {s : Strand} → strand_by p m x ≡ Ok s → wrong_strand p m ≡ false
+read_in p m x h = right_by (yes p) (wrong_annotation m) (annotation_of m) x h
+
+abbrev none : Arrays
+none = arrays [] [] [] [] [] [] []
+
+module _ {count : ℕ} {leaving : Bool} {before now : RecordArrays} {r : Result (Option DuplexConsensus) Refusal} where
+  first_by : (p v : Bool) (m : Option ConversionPattern) (x : Arrays) {s b : Strand} {listed : Bool} → by p v m x ≡ Ok s → DuplexAs s b listed count leaving uncounted before now r → DuplexAs (strand p m x) b listed count leaving uncounted before now r
+  first_by true true m x h d = absurd cc
+  first_by true false m x {s} {b} {listed} h d =
+      let same : s ≡ strand true m x = cc in
+      subst (λ (s : Strand). DuplexAs s b listed count leaving uncounted before now r) same d
+  first_by false v m x {s} {b} {listed} h d =
+      let same : s ≡ given_of None = cc in
+      (not_looked_at uncounted uncounted listed count leaving before now r).first None m none x b (subst (λ (s : Strand). DuplexAs s b listed count leaving uncounted before now r) same d)
+
+  second_by : (p v : Bool) (m : Option ConversionPattern) (x : Arrays) {s a : Strand} {listed : Bool} → by p v m x ≡ Ok s → DuplexAs a s listed count leaving uncounted before now r → DuplexAs a (strand p m x) listed count leaving uncounted before now r
+  second_by true true m x h d = absurd cc
+  second_by true false m x {s} {a} {listed} h d =
+      let same : s ≡ strand true m x = cc in
+      subst (λ (s : Strand). DuplexAs a s listed count leaving uncounted before now r) same d
+  second_by false v m x {s} {a} {listed} h d =
+      let same : s ≡ given_of None = cc in
+      (not_looked_at uncounted uncounted listed count leaving before now r).second a None m none x (subst (λ (s : Strand). DuplexAs a s listed count leaving uncounted before now r) same d)
+
+list_by :
+    (a b : Strand) (listed : Bool) (count : ℕ) (leaving : Bool) {before now : RecordArrays} {r : Result (Option DuplexConsensus) Refusal}
+    → (let list = given_list listed count leaving in DuplexAs a b (is_some list) (count_in list) (leaving_in list) uncounted before now r)
+    → DuplexAs a b listed count (listed && leaving) uncounted before now r
+list_by a b true count leaving d = d
+list_by a b false count leaving {before} {now} {r} d = (not_looked_at uncounted uncounted false 0 false before now r).list a b count false d
+
+pub numbered :
+    (p m q n : ℕ) (x y : Arrays) (listed : Bool) (count : ℕ) (leaving : Bool) {s t : Strand} {list : Option GivenReads} {before now : RecordArrays} {r : Result (Option DuplexConsensus) Refusal}
+    → strand_by p m x ≡ Ok s
+    → strand_by q n y ≡ Ok t
+    → list ≡ given_list listed count leaving
+    → DuplexAs s t (is_some list) (count_in list) (leaving_in list) uncounted before now r
+    → DuplexAs (strand (yes p) (annotation_of m) x) (strand (yes q) (annotation_of n) y) listed count (listed && leaving) uncounted before now r
+numbered p m q n x y listed count leaving {s} {t} {list} {before} {now} {r} e f g d =
+    let by_list = list_by s t listed count leaving (subst (λ (l : Option GivenReads). DuplexAs s t (is_some l) (count_in l) (leaving_in l) uncounted before now r) g d) in
+    second_by (yes q) (wrong_annotation n) (annotation_of n) y f (first_by (yes p) (wrong_annotation m) (annotation_of m) x e by_list)

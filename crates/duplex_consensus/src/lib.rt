@@ -1,61 +1,52 @@
 // The duplex record with its source reads, from duplex_caller.rs (duplex_consensus), as an entry point over numbers: the record, and
-// where there is a list the errors that are counted of its reads. Uses methylation, replies, duplex_molecule, duplex_kind, duplex_reply,
-// duplex_record and source_reads.
+// where there is a list the errors that are counted of its reads. Uses refusals, methylation, replies, vanilla_caller, duplex_molecule,
+// duplex_kind, duplex_reply, duplex_record and source_reads.
 #![tactic(auto)]
 
-ghost use Rattle.std.specs.Prelude.{◌≡◌, cond, not, ◌&&◌, ◌||◌};
-ghost use Rattle.replies.specs.Choices.{yes, annotation_of};
+ghost use Rattle.std.specs.Prelude.{◌≡◌, cond, Some, None, length, ◌||◌};
+ghost use Rattle.methylation.specs.Choices.{annotation_of};
+ghost use Rattle.replies.specs.Choices.{yes};
 ghost use Rattle.vanilla_caller.specs.Strand.{arrays};
 ghost use Rattle.duplex_outputs.specs.Outputs.{record_of};
 ghost use Rattle.duplex_kind.specs.Kind.{strand};
-ghost use Rattle.duplex_kind.specs.declared.DuplexConsensus.TheVariants.{Refused};
-ghost use Rattle.duplex_reply.specs.Reply.{record_for};
-ghost use Rattle.duplex_consensus.specs.Consensus.{wrong_strand, counted_positions, EntryAs};
+ghost use Rattle.source_reads.specs.Reads.{any_leaves};
+ghost use Rattle.duplex_consensus.specs.Consensus.{wrong_strand, counted_positions, given_list, EntryAs};
 
-use duplex_kind::DuplexConsensus;
+use duplex_kind::{DuplexConsensus, GivenReads};
 use duplex_molecule::ct_input;
 use duplex_record::duplex_record;
-use duplex_reply::{DuplexRecord, record_for};
-use refusals::BROKEN;
-use replies::{annotation_of, wrong_annotation};
-use source_reads::{SourceRead, count_read_errors, list_leaves};
+use duplex_reply::{DuplexRecord, strand_in};
+use methylation::EvidenceSlices;
+use refusals::Refusal;
+use replies::annotation_of;
+use source_reads::{SourceRead, StrandBases, count_read_errors, list_leaves};
+use vanilla_caller::VanillaConsensusRead;
 
 // How many positions of a record have their errors counted: all of a record of two strands with a list.
-pub fn counted_positions(made: DuplexConsensus, listed: bool) -> usize
+// Of a list only whether there is one counts here.
+pub fn counted_positions(made: Result<Option<DuplexConsensus>, Refusal>, listed: bool) -> usize
     ensures { result ≡ counted_positions listed made }
 {
     match made {
-        DuplexConsensus::Refused(_) => 0,
-        DuplexConsensus::NoRecord => 0,
-        DuplexConsensus::Ab(_) => 0,
-        DuplexConsensus::Ba(_) => 0,
-        DuplexConsensus::Both(n) => if listed { n } else { 0 },
+        Err(_) => 0,
+        Ok(None) => 0,
+        Ok(Some(DuplexConsensus::Ab(_))) => 0,
+        Ok(Some(DuplexConsensus::Ba(_))) => 0,
+        Ok(Some(DuplexConsensus::Both(n))) => if listed { n } else { 0 },
     }
 }
 
-// Row 13's condition: the annotation of a strand that is present stands for nothing.
-fn wrong_strands(a_present: u8, a_annotation: u8, b_present: u8, b_annotation: u8) -> bool
-    ensures { result ≡ (wrong_strand a_present a_annotation || wrong_strand b_present b_annotation) }
+// What is given of the reads, where they are listed.
+fn given_list(listed: bool, reads: &[SourceRead], size: usize) -> Option<GivenReads>
+    ensures { result ≡ given_list listed (length reads.now) (any_leaves size reads.now) }
 {
-    ((a_present != 0) & wrong_annotation(a_annotation))
-        | ((b_present != 0) & wrong_annotation(b_annotation))
-}
-
-// Whether what a number tells of is looked at: nothing is, where row 13 refuses the call.
-fn is_there(wrong: bool, number: u8) -> bool
-    ensures { result ≡ (not wrong && yes number) }
-{
-    !wrong & (number != 0)
-}
-
-// The answer as numbers, or row 13's.
-fn consensus_reply(wrong: bool, made: DuplexConsensus) -> DuplexRecord
-    ensures { result ≡ record_for (cond wrong (Refused 13) made) }
-{
-    if wrong {
-        return record_for(DuplexConsensus::Refused(BROKEN));
+    if !listed {
+        return None;
     }
-    record_for(made)
+    Some(GivenReads {
+        count: reads.len(),
+        leaving: list_leaves(reads, size),
+    })
 }
 
 // The record of two strands, of one or of none, with the source reads where they are listed. One strand alone goes to the first
@@ -102,35 +93,43 @@ pub extern "C" fn gedrashiw_duplex_consensus_typed(
         (record_of bases_out.new quals_out.new errors_out.new a_marks_out.new a_unconverted_out.new a_converted_out.new b_marks_out.new b_unconverted_out.new b_converted_out.new)
         result }
 {
-    let wrong = wrong_strands(a_present, a_annotation, b_present, b_annotation);
-    let a_there = is_there(wrong, a_present);
-    let b_there = is_there(wrong, b_present);
-    let counted = is_there(wrong, listed);
-    let a_told = annotation_of(a_annotation);
-    let b_told = annotation_of(b_annotation);
-    let leaving = list_leaves(counted, reads, bytes.len());
+    let a = VanillaConsensusRead {
+        bases: a_bases,
+        quals: a_quals,
+        depths: a_depths,
+        errors: a_errors,
+        annotation: None,
+        evidence: EvidenceSlices {
+            marks: a_marks,
+            unconverted: a_unconverted,
+            converted: a_converted,
+        },
+    };
+    let a = match strand_in(a_present, a_annotation, a) {
+        Ok(a) => a,
+        Err(refusal) => return DuplexRecord::from(Err::<Option<DuplexConsensus>, Refusal>(refusal)),
+    };
+    let b = VanillaConsensusRead {
+        bases: b_bases,
+        quals: b_quals,
+        depths: b_depths,
+        errors: b_errors,
+        annotation: None,
+        evidence: EvidenceSlices {
+            marks: b_marks,
+            unconverted: b_unconverted,
+            converted: b_converted,
+        },
+    };
+    let b = match strand_in(b_present, b_annotation, b) {
+        Ok(b) => b,
+        Err(refusal) => return DuplexRecord::from(Err::<Option<DuplexConsensus>, Refusal>(refusal)),
+    };
+    let list = given_list(listed != 0, reads, bytes.len());
     let made = duplex_record(
-        a_there,
-        a_bases,
-        a_quals,
-        a_depths,
-        a_errors,
-        a_told,
-        a_marks,
-        a_unconverted,
-        a_converted,
-        b_there,
-        b_bases,
-        b_quals,
-        b_depths,
-        b_errors,
-        b_told,
-        b_marks,
-        b_unconverted,
-        b_converted,
-        counted,
-        reads.len(),
-        leaving,
+        a,
+        b,
+        list,
         bases_out,
         quals_out,
         errors_out,
@@ -141,17 +140,20 @@ pub extern "C" fn gedrashiw_duplex_consensus_typed(
         b_unconverted_out,
         b_converted_out,
     );
-    let positions = counted_positions(made, counted);
     count_read_errors(
         reads,
         bytes,
-        ct_input(a_told, b_told),
-        positions,
-        a_bases,
-        a_quals,
-        b_bases,
-        b_quals,
+        ct_input(annotation_of(a_annotation), annotation_of(b_annotation)),
+        counted_positions(made, listed != 0),
+        StrandBases {
+            bases: a_bases,
+            quals: a_quals,
+        },
+        StrandBases {
+            bases: b_bases,
+            quals: b_quals,
+        },
         errors_out,
     );
-    consensus_reply(wrong, made)
+    DuplexRecord::from(made)
 }

@@ -3,19 +3,17 @@
 #![tactic(auto)]
 
 ghost use Rattle.std.specs.Prelude.{◌≡◌};
-ghost use Rattle.refusals.specs.Refusal.{refusal};
-ghost use Rattle.duplex_kind.specs.Kind.{shorter_present, counts, kind_by, long, uneven, given_faults, kind_given};
+ghost use Rattle.std.specs.Prelude.{is_some};
+ghost use Rattle.duplex_kind.specs.Kind.{given, given_of, given_in, count_in, leaving_in, shorter_present, some_depth, kind_by, long, uneven, kind_given};
 
-use lists::smaller;
-use methylation::{Annotation, is_annotated};
-use refusals::{MAX_READS, PART_OUTSIDE, RAGGED, TOO_LONG, TOO_MANY_READS, refuse_if};
-use vanilla_caller::{Lengths, strand_ragged, strand_too_long};
+use lists::front;
+use methylation::ConversionPattern;
+use refusals::{MAX_READS, Refusal, refuse};
+use vanilla_caller::{Lengths, VanillaConsensusRead, strand_ragged, strand_too_long};
 
 // The record's kind, and how many positions it has.
-#[derive(Clone, Copy)]
+#[derive(Clone, Copy, Debug, PartialEq, Eq)]
 pub enum DuplexConsensus {
-    Refused(u8),
-    NoRecord,
     // Strand A alone.
     Ab(usize),
     // Strand B alone, stored as the first strand.
@@ -23,104 +21,96 @@ pub enum DuplexConsensus {
     Both(usize),
 }
 
-// What is given of a strand: whether it is there, its annotation, and how long its arrays are.
+// What is given of a strand: its annotation, how long its arrays are, and its depths.
 #[derive(Clone, Copy)]
-pub struct GivenStrand {
-    pub present: bool,
-    pub annotation: Annotation,
+pub struct GivenStrand<'a> {
+    pub annotation: Option<ConversionPattern>,
     pub lengths: Lengths,
+    pub depths: &'a [u16],
+}
+
+// What is given of a list of reads: how many there are, and whether a read's part leaves its buffer.
+#[derive(Clone, Copy, Debug, PartialEq, Eq)]
+pub struct GivenReads {
+    pub count: usize,
+    pub leaving: bool,
+}
+
+// What is given of a strand that may be absent.
+pub fn given_strand<'a>(s: Option<VanillaConsensusRead<'a>>) -> Option<GivenStrand<'a>>
+    ensures { given_in result ≡ given (given_of s.entry) }
+{
+    match s {
+        Some(s) => Some(GivenStrand {
+            annotation: s.annotation,
+            lengths: s.lengths(),
+            depths: s.depths,
+        }),
+        None => None,
+    }
 }
 
 // The length of a record: the shorter of the strands present.
-fn record_length(a: GivenStrand, b: GivenStrand) -> usize
-    ensures { result ≡ shorter_present a b }
+fn record_length(a: Option<GivenStrand>, b: Option<GivenStrand>) -> usize
+    ensures { result ≡ shorter_present (given_in a.entry) (given_in b.entry) }
 {
-    if a.present {
-        if b.present {
-            return smaller(a.lengths.bases, b.lengths.bases);
-        }
-        return a.lengths.bases;
+    match (a, b) {
+        (Some(a), Some(b)) => a.lengths.bases.min(b.lengths.bases),
+        (Some(a), None) => a.lengths.bases,
+        (None, Some(b)) => b.lengths.bases,
+        (None, None) => 0,
     }
-    if b.present { b.lengths.bases } else { 0 }
 }
 
-// Whether some depth of a strand within n positions is above 0.
-fn is_covered(n: usize, present: bool, depths: &[u16]) -> bool
-    ensures { result ≡ counts n present depths.now }
+// Whether some depth is above 0.
+fn is_covered(depths: &[u16]) -> bool
+    ensures { result ≡ some_depth depths.now }
 {
-    let end = smaller(n, depths.len());
-    let mut met = false;
-    let mut i = 0;
-    while i < end {
-        met = met | (0 < depths[i]);
-        i += 1;
-    }
-    present & met
+    depths.iter().fold(false, |met, &depth| met | (0 < depth))
 }
 
 // The record's kind, once its strands are known to be of one length each.
-fn kind_of(a: GivenStrand, a_depths: &[u16], b: GivenStrand, b_depths: &[u16]) -> DuplexConsensus
-    ensures { result ≡ kind_by a a_depths.now b b_depths.now }
+fn kind_of(a: Option<GivenStrand>, b: Option<GivenStrand>) -> Option<DuplexConsensus>
+    ensures { result ≡ kind_by (given_in a.entry) (given_in b.entry) }
 {
     let n = record_length(a, b);
-    let a_covered = is_covered(n, a.present, a_depths);
-    let b_covered = is_covered(n, b.present, b_depths);
-    if a_covered {
-        if b_covered {
-            return DuplexConsensus::Both(n);
-        }
-        return DuplexConsensus::Ab(a.lengths.bases);
+    let a_covered = a.filter(|s| is_covered(front(s.depths, n)));
+    let b_covered = b.filter(|s| is_covered(front(s.depths, n)));
+    match (a_covered, b_covered) {
+        (Some(_), Some(_)) => Some(DuplexConsensus::Both(n)),
+        (Some(a), None) => Some(DuplexConsensus::Ab(a.lengths.bases)),
+        (None, Some(b)) => Some(DuplexConsensus::Ba(b.lengths.bases)),
+        (None, None) => None,
     }
-    if b_covered {
-        return DuplexConsensus::Ba(b.lengths.bases);
-    }
-    DuplexConsensus::NoRecord
 }
 
 // Row 7's condition for a strand that may be absent.
-fn is_long(s: GivenStrand) -> bool
-    ensures { result ≡ long s }
+fn is_long(s: Option<GivenStrand>) -> bool
+    ensures { result ≡ long (given_in s.entry) }
 {
-    let annotation = s.annotation;
-    let lengths = s.lengths;
-    s.present & strand_too_long(is_annotated(annotation), lengths)
+    s.is_some_and(|s| strand_too_long(s.annotation.is_some(), s.lengths))
 }
 
 // Row 8's.
-fn is_uneven(s: GivenStrand) -> bool
-    ensures { result ≡ uneven s }
+fn is_uneven(s: Option<GivenStrand>) -> bool
+    ensures { result ≡ uneven (given_in s.entry) }
 {
-    let annotation = s.annotation;
-    let lengths = s.lengths;
-    s.present & strand_ragged(is_annotated(annotation), lengths)
+    s.is_some_and(|s| strand_ragged(s.annotation.is_some(), s.lengths))
 }
 
-// The rows that are tested whether or not there will be a record.
-fn given_refusal(a: GivenStrand, b: GivenStrand, listed: bool, reads: usize, leaving: bool) -> u8
-    ensures { result ≡ refusal (given_faults a b listed reads leaving) }
-{
-    let number = refuse_if(0, is_long(a) | is_long(b), TOO_LONG);
-    let number = refuse_if(number, is_uneven(a) | is_uneven(b), RAGGED);
-    let number = refuse_if(number, listed & (MAX_READS < reads), TOO_MANY_READS);
-    refuse_if(number, listed & leaving, PART_OUTSIDE)
-}
-
-// The kind of the record that two strands make, either of which may be absent, and how many positions it has. Of a list of reads it
-// is told how many there are, and whether a read's part leaves its buffer. Refuses by 7, 8, 9, 10.
+// The kind of the record that two strands make, either of which may be absent, and how many positions it has. Refuses by 7, 8, 9, 10.
 pub fn record_kind(
-    a: GivenStrand,
-    a_depths: &[u16],
-    b: GivenStrand,
-    b_depths: &[u16],
-    listed: bool,
-    reads: usize,
-    leaving: bool,
-) -> DuplexConsensus
-    ensures { result ≡ kind_given a a_depths.now b b_depths.now listed reads leaving }
+    a: Option<GivenStrand>,
+    b: Option<GivenStrand>,
+    list: Option<GivenReads>,
+) -> Result<Option<DuplexConsensus>, Refusal>
+    ensures { result ≡ kind_given (given_in a.entry) (given_in b.entry) (is_some list) (count_in list) (leaving_in list) }
 {
-    let number = given_refusal(a, b, listed, reads, leaving);
-    if number != 0 {
-        return DuplexConsensus::Refused(number);
+    refuse(is_long(a) | is_long(b), Refusal::TooLong)?;
+    refuse(is_uneven(a) | is_uneven(b), Refusal::Ragged)?;
+    if let Some(list) = list {
+        refuse(MAX_READS < list.count, Refusal::TooManyReads)?;
+        refuse(list.leaving, Refusal::PartOutside)?;
     }
-    kind_of(a, a_depths, b, b_depths)
+    Ok(kind_of(a, b))
 }

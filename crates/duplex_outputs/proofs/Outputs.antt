@@ -1,27 +1,28 @@
--- What a call that writes a record leaves in its outputs, by the number that its code has.
+-- What a call that writes a record leaves in its outputs, by its refusal.
 --     record_refused     refused: every output is as it was
 --     record_passed      not refused: every output has its array written to its front
 --     roomy              row 12 does not refuse: there is room for n positions, and for evidence where it goes
 -- Assumes nothing.
-use mathlib.Core.Path.{◌≡◌, refl, ◌∙◌}
+use mathlib.Core.Path.{◌≡◌, refl}
+use Rattle.std.proofs.Common.{Some, None}
 use mathlib.Core.Bool.{Bool, true, false, ◌&&◌, ◌||◌}
 use Prim.Native.Nat.{ℕ, ◌≤◌}
 use Rattle.lists.specs.Output.{put}
-use Rattle.lists.proofs.Output.{after_refused, after_passed}
+use Rattle.refusals.specs.declared.Refusal.{Refusal}
 use Rattle.refusals.specs.Refusal.{too_short}
 use Rattle.refusals.proofs.Condition.{Every, nor_where, not_too_short}
-use Rattle.methylation.specs.Arrays.{three, evidence_too_short, PutsEvidence}
+use Rattle.methylation.specs.Arrays.{three, PutsEvidence}
 use Rattle.methylation.proofs.Arrays.{evidence_refused, evidence_put}
 use Rattle.duplex_outputs.specs.Outputs.{RecordArrays, own_lengths, record_too_short, LeavesRecord}
 use Rattle.duplex_outputs.specs.declared.RecordLengths.{RecordLengths}
 
-pub record_refused : {written before : RecordArrays} {n number : ℕ} → n ≡ number → (n ≡ 0 → ⊥) → LeavesRecord number written before before
-record_refused e h = record {
-  bases = after_refused _ _ e h;
-  quals = after_refused _ _ e h;
-  errors = after_refused _ _ e h;
-  a = evidence_refused e h;
-  b = evidence_refused e h;
+pub record_refused : (row : Refusal) (written before : RecordArrays) → LeavesRecord (Some row) written before before
+record_refused row written before = record {
+  bases = refl;
+  quals = refl;
+  errors = refl;
+  a = evidence_refused row _ _;
+  b = evidence_refused row _ _;
 }
 
 -- Every output has its array written to its front.
@@ -32,13 +33,13 @@ pub record PutsRecord (written before now : RecordArrays) : Type 0 where
   pub a : PutsEvidence written.a before.a now.a
   pub b : PutsEvidence written.b before.b now.b
 
-pub record_passed : {written before now : RecordArrays} {n number : ℕ} → n ≡ number → n ≡ 0 → PutsRecord written before now → LeavesRecord number written before now
-record_passed e z p = record {
-  bases = p.bases ∙ after_passed _ _ e z;
-  quals = p.quals ∙ after_passed _ _ e z;
-  errors = p.errors ∙ after_passed _ _ e z;
-  a = evidence_put e z p.a;
-  b = evidence_put e z p.b;
+pub record_passed : {written before now : RecordArrays} → PutsRecord written before now → LeavesRecord None written before now
+record_passed p = record {
+  bases = p.bases;
+  quals = p.quals;
+  errors = p.errors;
+  a = evidence_put p.a;
+  b = evidence_put p.b;
 }
 
 -- There is room for n positions, and for evidence where it goes.
@@ -48,7 +49,6 @@ pub record Roomy (n : ℕ) (annotated_a annotated_b : Bool) (out : RecordLengths
   pub b : annotated_b ≡ true → Every (λ x. n ≤ x) (three out.b)
 
 pub roomy : (n : ℕ) (annotated_a annotated_b : Bool) (out : RecordLengths) → record_too_short n annotated_a annotated_b out ≡ false → Roomy n annotated_a annotated_b out
-unfolding record_too_short evidence_too_short
 roomy n annotated_a annotated_b out h =
     let a = too_short n (three out.a) in
     let b = too_short n (three out.b) in

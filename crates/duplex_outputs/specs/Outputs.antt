@@ -1,7 +1,8 @@
 -- The outputs that a duplex record is written to.
-use Rattle.std.specs.Prelude.{ℕ, ◌≡◌, Bool, ◌&&◌, ◌||◌, List, [], ◌∷◌, length}
-use Rattle.lists.specs.Output.{after}
+use Rattle.std.specs.Prelude.{ℕ, ◌≡◌, Bool, ◌&&◌, ◌||◌, Option, List, [], ◌∷◌, length}
+use Rattle.refusals.specs.declared.Refusal.{Refusal}
 use Rattle.refusals.specs.Refusal.{too_short}
+use Rattle.refusals.specs.Outcome.{after}
 use Rattle.methylation.specs.Arrays.{EvidenceArrays, evidence_arrays, evidence_lengths, evidence_too_short, LeavesEvidence}
 use Rattle.duplex_outputs.specs.declared.RecordLengths.{RecordLengths}
 
@@ -36,14 +37,14 @@ abbrev pub own_lengths : RecordLengths → List ℕ
 own_lengths out = out.bases ∷ out.quals ∷ out.errors ∷ []
 
 -- Row 12's condition for n positions. Evidence goes only where a strand is annotated.
-unfoldable pub record_too_short : ℕ → Bool → Bool → RecordLengths → Bool
+abbrev pub record_too_short : ℕ → Bool → Bool → RecordLengths → Bool
 record_too_short n annotated_a annotated_b out =
     too_short n (own_lengths out) || ((annotated_a && evidence_too_short n out.a) || (annotated_b && evidence_too_short n out.b))
 
--- What a call leaves there, where it was refused with a number (0: not refused) or else writes these arrays.
-pub record LeavesRecord (number : ℕ) (written before now : RecordArrays) : Type 0 where
-  pub bases : now.bases ≡ after number written.bases before.bases
-  pub quals : now.quals ≡ after number written.quals before.quals
-  pub errors : now.errors ≡ after number written.errors before.errors
-  pub a : LeavesEvidence number written.a before.a now.a
-  pub b : LeavesEvidence number written.b before.b now.b
+-- What a call leaves there, where it was refused or else writes these arrays.
+pub record LeavesRecord (refused : Option Refusal) (written before now : RecordArrays) : Type 0 where
+  pub bases : now.bases ≡ after refused written.bases before.bases
+  pub quals : now.quals ≡ after refused written.quals before.quals
+  pub errors : now.errors ≡ after refused written.errors before.errors
+  pub a : LeavesEvidence refused written.a before.a now.a
+  pub b : LeavesEvidence refused written.b before.b now.b

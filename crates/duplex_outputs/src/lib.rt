@@ -18,11 +18,11 @@ pub struct RecordLengths {
 }
 
 // Row 12's condition for n positions. A strand's evidence counts where it is annotated.
+// Lengths alone are tested, so that of an annotation only whether there is one counts.
 pub fn record_too_short(n: usize, a_annotated: bool, b_annotated: bool, out: RecordLengths) -> bool
     ensures { result ≡ record_too_short n a_annotated b_annotated out }
 {
     let own = (out.bases < n) | ((out.quals < n) | (out.errors < n));
-    let a = out.a;
-    let b = out.b;
-    own | ((a_annotated & evidence_too_short(n, a)) | (b_annotated & evidence_too_short(n, b)))
+    own | ((a_annotated & evidence_too_short(n, out.a))
+        | (b_annotated & evidence_too_short(n, out.b)))
 }

@@ -8,6 +8,13 @@ ghost use Rattle.duplex_position.specs.Combination.{agreed, disagreed, masked, u
 use dna::NO_CALL_BASE;
 use phred::{MIN_PHRED, cap_quality};
 
+// The base that a strand shows, and its quality.
+#[derive(Clone, Copy)]
+pub struct StrandBase {
+    pub base: u8,
+    pub qual: u8,
+}
+
 // The base and quality of the record, and the base before masking, which errors are counted against.
 #[derive(Clone, Copy)]
 pub struct Position {
@@ -17,6 +24,7 @@ pub struct Position {
 }
 
 // Both strands support a base: their qualities are added.
+#[tactic(auto, unfolding(crate::specs::Combination::agreed))]
 fn agreed_quality(a_qual: u8, b_qual: u8) -> u8
     ensures { result ≡ agreed a_qual b_qual }
 {
@@ -24,21 +32,19 @@ fn agreed_quality(a_qual: u8, b_qual: u8) -> u8
 }
 
 // The strands disagree: the difference of their qualities is left.
+#[tactic(auto, unfolding(crate::specs::Combination::disagreed))]
 fn disagreed_quality(a_qual: u8, b_qual: u8) -> u8
     ensures { result ≡ disagreed a_qual b_qual }
 {
-    if a_qual < b_qual {
-        cap_quality((b_qual - a_qual) as u16)
-    } else {
-        cap_quality((a_qual - b_qual) as u16)
-    }
+    cap_quality((a_qual.max(b_qual) - a_qual.min(b_qual)) as u16)
 }
 
 // N with the lowest quality where either strand shows N or the quality is the lowest.
-fn masked_position(a_base: u8, b_base: u8, base: u8, qual: u8) -> Position
-    ensures { result ≡ masked a_base b_base base qual }
+#[tactic(auto, unfolding(crate::specs::Combination::masked))]
+fn masked_position(a: StrandBase, b: StrandBase, base: u8, qual: u8) -> Position
+    ensures { result ≡ masked a.base b.base base qual }
 {
-    if (a_base == NO_CALL_BASE) | ((b_base == NO_CALL_BASE) | (qual == MIN_PHRED)) {
+    if (a.base == NO_CALL_BASE) | ((b.base == NO_CALL_BASE) | (qual == MIN_PHRED)) {
         return Position {
             base: NO_CALL_BASE,
             qual: MIN_PHRED,
@@ -53,38 +59,34 @@ fn masked_position(a_base: u8, b_base: u8, base: u8, qual: u8) -> Position
 }
 
 // The position without a methylation call.
-pub fn combine_bases(a_base: u8, a_qual: u8, b_base: u8, b_qual: u8) -> Position
-    ensures { result ≡ uncalled a_base a_qual b_base b_qual }
+#[tactic(auto, unfolding(crate::specs::Combination::uncalled))]
+pub fn combine_bases(a: StrandBase, b: StrandBase) -> Position
+    ensures { result ≡ uncalled a.base a.qual b.base b.qual }
 {
-    if a_base == b_base {
-        return masked_position(a_base, b_base, a_base, agreed_quality(a_qual, b_qual));
+    if a.base == b.base {
+        return masked_position(a, b, a.base, agreed_quality(a.qual, b.qual));
     }
-    let qual = disagreed_quality(a_qual, b_qual);
-    if a_qual < b_qual {
-        return masked_position(a_base, b_base, b_base, qual);
+    let qual = disagreed_quality(a.qual, b.qual);
+    if a.qual < b.qual {
+        return masked_position(a, b, b.base, qual);
     }
-    masked_position(a_base, b_base, a_base, qual)
+    masked_position(a, b, a.base, qual)
 }
 
 // The position at a methylation call with a confirmed base: the strands' qualities added, or the confirming strand's alone.
+// The flag stays beside its quality: a value is chosen and no way through the code, for speed.
+#[tactic(auto, unfolding(crate::specs::Combination::called))]
 pub fn combine_called(
-    a_base: u8,
-    a_qual: u8,
-    b_base: u8,
-    b_qual: u8,
+    a: StrandBase,
+    b: StrandBase,
     confirmed: u8,
     confirming_alone: bool,
     confirming_qual: u8,
 ) -> Position
-    ensures { result ≡ called a_base a_qual b_base b_qual confirmed confirming_alone confirming_qual }
+    ensures { result ≡ called a.base a.qual b.base b.qual confirmed confirming_alone confirming_qual }
 {
     if confirming_alone {
-        return masked_position(
-            a_base,
-            b_base,
-            confirmed,
-            cap_quality(confirming_qual as u16),
-        );
+        return masked_position(a, b, confirmed, cap_quality(confirming_qual as u16));
     }
-    masked_position(a_base, b_base, confirmed, agreed_quality(a_qual, b_qual))
+    masked_position(a, b, confirmed, agreed_quality(a.qual, b.qual))
 }

@@ -1,3 +1,4 @@
 pub mod Record
 pub mod Unannotated
 pub mod Untouched
+pub mod Absent

@@ -1,182 +1,188 @@
 -- A record is what the call that wrote it leaves, where rows 7 to 10 are passed.
---     kind_given_lem, kind_by_lem  the kind, from what is given of the strands, and from their lengths
 --     turned_down          refused by one of those rows
 --     none                 nothing is written
 --     alone_ab, alone_ba   by `gated_single_strand`, to the first strand's outputs
 --     both                 by a call that combines two strands
+--     kind_told            the kind that the code asked for
+--     lent_single, lent_combined     what a call leaves, by the strands as they were lent
 -- Assumes nothing.
-use mathlib.Core.Path.{◌≡◌, refl, sym, ap, ◌∙◌}
-use mathlib.Core.Bool.{Bool, false, cond}
-use mathlib.Core.List.{List, [], ◌∷◌}
-use Prim.Native.Nat.{ℕ, zero, suc, min}
-use borrow.Author.Tests.{eq-eqb, ne_eqb}
-use lib.Dec.{eqb}
-use Rattle.lists.specs.Output.{unless, answer}
-use Rattle.lists.proofs.Output.{answer_refused, answer_passed, answer_map, after_none}
-use Rattle.refusals.specs.Refusal.{Fault, ◌if◌, refusal, OutputTooShort}
-use Rattle.refusals.proofs.Refusal.{and_then}
+use mathlib.Core.Path.{◌≡◌, refl, sym, ap, ◌∙◌, subst}
+use mathlib.Core.Bool.{Bool, true, false, ◌||◌}
+use mathlib.Core.List.{[], ◌∷◌}
+use Prim.Native.Nat.{ℕ, min}
+use Rattle.std.proofs.Common.{Option, Some, None, Result, Ok, Err}
+use Rattle.refusals.specs.declared.Refusal.{Refusal}
+use Rattle.refusals.specs.declared.Refusal.TheVariants.{TooLong, Ragged, TooManyReads, PartOutside, OutputTooShort}
+use Rattle.refusals.specs.Refusal.{◌if◌, refused}
+use Rattle.refusals.specs.Outcome.{answer}
 use Rattle.methylation.specs.Arrays.{evidence_arrays}
-use Rattle.vanilla_caller.specs.Strand.{lengths}
-use Rattle.vanilla_caller.specs.declared.Lengths.{Lengths}
 use Rattle.duplex_molecule.specs.Molecule.{ct_input}
 use Rattle.duplex_outputs.specs.Outputs.{RecordArrays, record_lengths, record_too_short, LeavesRecord}
 use Rattle.duplex_outputs.proofs.Outputs.{record_refused}
-use Rattle.duplex_single.specs.Single.{single_arrays, single_faults, single_refused, SingleAs}
-use Rattle.duplex_single.specs.declared.SingleStrandRecord.{SingleStrandRecord}
-use Rattle.duplex_single.specs.declared.SingleStrandRecord.TheVariants.{Refused as Refused-single, Written as Written-single}
-use Rattle.duplex_strands.specs.Combine.{uncounted, combine_faults, combine_refused, CombinedAs}
-use Rattle.duplex_strands.specs.declared.Combined.{Combined}
-use Rattle.duplex_strands.specs.declared.Combined.TheVariants.{Refused as Refused-combined}
-use Rattle.duplex_kind.specs.Kind.{Strand, annotated, positions, kind_of, given_faults, strand_faults, kind_given, record_kind}
+use Rattle.duplex_single.specs.Single.{single_arrays, single_refused, SingleAs}
+use Rattle.duplex_strands.specs.Combine.{uncounted, combine_refused, CombinedAs}
+use Rattle.duplex_kind.specs.Kind.{Strand, Given, given, annotated, positions, kind_of, strand_faults, kind_given, record_kind}
 use Rattle.duplex_kind.specs.declared.DuplexConsensus.{DuplexConsensus}
-use Rattle.duplex_kind.specs.declared.DuplexConsensus.TheVariants.{Refused, NoRecord, Ab, Ba, Both}
-use Rattle.duplex_kind.specs.declared.GivenStrand.{GivenStrand}
+use Rattle.duplex_kind.specs.declared.DuplexConsensus.TheVariants.{Ab, Ba, Both}
 use Rattle.duplex_kind.proofs.Kind.{Passes, is_refused, is_none, is_ab, is_ba, is_both}
-use Rattle.duplex_record.specs.Parts.{ab_of, ba_of, both_of}
-use Rattle.duplex_record.specs.Record.{nothing, record_arrays, outputs_short, duplex_faults, duplex_refused, DuplexAs}
-use Rattle.duplex_record.proofs.Untouched.{Same, same, no_evidence}
+use Rattle.vanilla_caller.specs.Strand.{arrays_in}
+use Rattle.vanilla_caller.specs.declared.VanillaConsensusRead.{VanillaConsensusRead}
+use Rattle.duplex_record.specs.Parts.{lent_as, made_of}
+use Rattle.duplex_record.specs.Record.{nothing, record_arrays, outputs_short, duplex_refused, DuplexAs}
+use Rattle.duplex_record.proofs.Untouched.{Same, same, after_none, no_evidence}
+
+pub kind_told :
+    (a b : Strand) (listed : Bool) (count : ℕ) (leaving : Bool) {x y : Given} {r k : Result (Option DuplexConsensus) Refusal}
+    → x ≡ given a
+    → y ≡ given b
+    → r ≡ kind_given x y listed count leaving
+    → r ≡ k
+    → record_kind a b listed count leaving ≡ k
+kind_told a b listed count leaving e f g h = sym (rw (e, f) at g) ∙ h
+
+module _ {before now : RecordArrays} {r : Result ℕ Refusal} where
+  pub lent_single : {a : Strand} {p : Bool} (s : VanillaConsensusRead) → a ≡ lent_as p s → SingleAs s.annotation (arrays_in s) before now r → SingleAs a.annotation a.arrays before now r
+  lent_single s e h = subst (λ (x : Strand). SingleAs x.annotation x.arrays before now r) (sym e) h
+
+  pub lent_combined : {a b : Strand} {p q listed : Bool} (s t : VanillaConsensusRead) → a ≡ lent_as p s → b ≡ lent_as q t → CombinedAs (ct_input s.annotation t.annotation) s.annotation (arrays_in s) t.annotation (arrays_in t) listed before now r → CombinedAs (ct_input a.annotation b.annotation) a.annotation a.arrays b.annotation b.arrays listed before now r
+  lent_combined {a} {b} {p} {q} {listed} s t e f h =
+      subst (λ (x : Strand). CombinedAs (ct_input x.annotation b.annotation) x.annotation x.arrays b.annotation b.arrays listed before now r) (sym e) (subst (λ (y : Strand). CombinedAs (ct_input s.annotation y.annotation) s.annotation (arrays_in s) y.annotation y.arrays listed before now r) (sym f) h)
 
 -- The outputs to which a strand alone goes.
 abbrev pub first_strand : RecordArrays → RecordArrays
 first_strand r = record { bases = r.bases; quals = r.quals; errors = r.errors; a = r.a; b = evidence_arrays [] [] [] }
 
+abbrev only_12 : Bool → Option Refusal
+only_12 short = refused ((OutputTooShort if short) ∷ [])
+
+-- The rows before 12 are not met.
+rows : (long uneven short : Bool) → long ≡ false → uneven ≡ false → refused ((TooLong if long) ∷ (Ragged if uneven) ∷ (OutputTooShort if short) ∷ []) ≡ only_12 short
+rows true uneven short h k = absurd cc
+rows false true short h k = absurd cc
+rows false false short h k = refl
+
+neither_holds : (x y : Bool) → x ≡ false → y ≡ false → (x || y) ≡ false
+neither_holds true y h k = absurd cc
+neither_holds false y h k = k
+
 -- A strand that passes rows 7 and 8 is refused alone only by 12.
-single_12 : (s : Strand) (out : RecordArrays) → Passes s → single_refused s.annotation s.arrays (first_strand out) ≡ refusal ((OutputTooShort if record_too_short (positions s) (annotated s) false (record_lengths out)) ∷ [])
-unfolding single_faults record_too_short refusal
-single_12 s out p = rw (p.not_long, p.not_uneven)
+single_12 : (s : Strand) (out : RecordArrays) → Passes s → single_refused s.annotation s.arrays (first_strand out) ≡ only_12 (record_too_short (positions s) (annotated s) false (record_lengths out))
+single_12 s out p = rows _ _ _ p.not_long p.not_uneven
 
 both_12 :
     (a b : Strand) (out : RecordArrays)
     → Passes a
     → Passes b
-    → combine_refused a.annotation a.arrays b.annotation b.arrays out ≡ refusal ((OutputTooShort if record_too_short (min (positions a) (positions b)) (annotated a) (annotated b) (record_lengths out)) ∷ [])
-unfolding combine_faults refusal
-both_12 a b out p q = rw (p.not_long, p.not_uneven, q.not_long, q.not_uneven)
+    → combine_refused a.annotation a.arrays b.annotation b.arrays out ≡ only_12 (record_too_short (min (positions a) (positions b)) (annotated a) (annotated b) (record_lengths out))
+both_12 a b out p q = rows _ _ _ (neither_holds _ _ p.not_long q.not_long) (neither_holds _ _ p.not_uneven q.not_uneven)
 
--- An answer handed on by a function that hands on refusals.
-handed_single : (of : SingleStrandRecord → DuplexConsensus) → ((n : ℕ) → of (Refused-single n) ≡ Refused n) → (number : ℕ) (x : SingleStrandRecord) → of (answer Refused-single number x) ≡ answer Refused number (of x)
-unfolding answer unless
-handed_single of h zero x = refl
-handed_single of h (suc n) x = h (suc n)
+-- An answer handed on.
+handed : (of : ℕ → DuplexConsensus) (row : Option Refusal) (n : ℕ) → made_of of (answer row n) ≡ answer row (Some (of n))
+handed of None n = refl
+handed of (Some row) n = refl
 
-leaves_first : (s : Strand) (number : ℕ) {before now : RecordArrays} → LeavesRecord number (single_arrays s.annotation s.arrays) (first_strand before) (first_strand now) → Same before.b now.b → LeavesRecord number (single_arrays s.annotation s.arrays) before now
-leaves_first s number l o = record {
+leaves_first : (s : Strand) (row : Option Refusal) {before now : RecordArrays} → LeavesRecord row (single_arrays s.annotation s.arrays) (first_strand before) (first_strand now) → Same before.b now.b → LeavesRecord row (single_arrays s.annotation s.arrays) before now
+leaves_first s row l o = record {
   bases = l.bases;
   quals = l.quals;
   errors = l.errors;
   a = l.a;
-  b = no_evidence number o;
+  b = no_evidence row o;
 }
 
-leaves_equal : {n m : ℕ} {v w before now : RecordArrays} → n ≡ m → v ≡ w → LeavesRecord n v before now → LeavesRecord m w before now
+leaves_equal : {n m : Option Refusal} {v w before now : RecordArrays} → n ≡ m → v ≡ w → LeavesRecord n v before now → LeavesRecord m w before now
 leaves_equal e f l = rw (← e, ← f) l
 
-untouched : (number : ℕ) (out : RecordArrays) → LeavesRecord number nothing out out
-untouched number out = record {
-  bases = after_none number _;
-  quals = after_none number _;
-  errors = after_none number _;
-  a = no_evidence number same;
-  b = no_evidence number same;
+untouched : (row : Option Refusal) (out : RecordArrays) → LeavesRecord row nothing out out
+untouched row out = record {
+  bases = after_none row _;
+  quals = after_none row _;
+  errors = after_none row _;
+  a = no_evidence row same;
+  b = no_evidence row same;
 }
 
--- A strand as the code has it, of these lengths.
-abbrev of_lengths : Strand → Lengths → GivenStrand
-of_lengths s l = record { present = s.present; annotation = s.annotation; lengths = l }
+-- The first of two refusals.
+abbrev or_else : Option Refusal → Option Refusal → Option Refusal
+or_else None other = other
+or_else (Some row) other = Some row
 
--- The kind that the code asked for, by what it has of the strands.
-pub kind_given_lem :
-    (a b : Strand) (listed : Bool) (count : ℕ) (leaving : Bool) {x y : GivenStrand} {k r : DuplexConsensus}
-    → x ≡ of_lengths a (lengths a.arrays)
-    → y ≡ of_lengths b (lengths b.arrays)
-    → k ≡ kind_given x a.arrays.depths y b.arrays.depths listed count leaving
-    → k ≡ r
-    → record_kind a b listed count leaving ≡ r
-kind_given_lem a b listed count leaving e f g h = sym (rw (e, f) at g) ∙ h
-
--- The same by the lengths that it has of them.
-pub kind_by_lem :
-    (a b : Strand) (listed : Bool) (count : ℕ) (leaving : Bool) {x y : Lengths} {k r : DuplexConsensus}
-    → x ≡ lengths a.arrays
-    → y ≡ lengths b.arrays
-    → k ≡ kind_given (of_lengths a x) a.arrays.depths (of_lengths b y) b.arrays.depths listed count leaving
-    → k ≡ r
-    → record_kind a b listed count leaving ≡ r
-kind_by_lem a b listed count leaving e f g h = kind_given_lem a b listed count leaving (ap (of_lengths a) e) (ap (of_lengths b) f) g h
+five : (long uneven many outside short : Bool)
+    → refused ((TooLong if long) ∷ (Ragged if uneven) ∷ (TooManyReads if many) ∷ (PartOutside if outside) ∷ (OutputTooShort if short) ∷ [])
+    ≡ or_else (refused ((TooLong if long) ∷ (Ragged if uneven) ∷ (TooManyReads if many) ∷ (PartOutside if outside) ∷ [])) (only_12 short)
+five true uneven many outside short = refl
+five false true many outside short = refl
+five false false true outside short = refl
+five false false false true short = refl
+five false false false false short = refl
 
 module _ (a b : Strand) (listed : Bool) (count : ℕ) (leaving : Bool) (before : RecordArrays) where
-  abbrev given : List Fault
-  given = strand_faults a b listed count leaving
+  abbrev early : Option Refusal
+  early = refused (strand_faults a b listed count leaving)
 
-  abbrev of_outputs : List Fault
-  of_outputs = (OutputTooShort if outputs_short a b before (kind_of a b)) ∷ []
+  abbrev row : Option Refusal
+  row = duplex_refused a b listed count leaving before
 
-  abbrev refused : ℕ
-  refused = duplex_refused a b listed count leaving before
-
-  joined : refused ≡ cond (eqb (refusal given) 0) (refusal of_outputs) (refusal given)
-  unfolding duplex_faults given_faults
-  joined = and_then given of_outputs refl
+  joined : row ≡ or_else early (only_12 (outputs_short a b before (kind_of a b)))
+  joined = five _ _ _ _ _
 
   -- Row 12 is left, of a record of kind k.
-  left_12 : {k : DuplexConsensus} → refusal given ≡ 0 → kind_of a b ≡ k → refused ≡ refusal ((OutputTooShort if outputs_short a b before k) ∷ [])
-  left_12 z k = rw (eq-eqb (refusal given) 0 z, k) at joined
+  left_12 : {k : Option DuplexConsensus} → early ≡ None → kind_of a b ≡ k → row ≡ only_12 (outputs_short a b before k)
+  left_12 z k = joined ∙ ap (λ (r : Option Refusal). or_else r (only_12 (outputs_short a b before (kind_of a b)))) z ∙ ap (λ (made : Option DuplexConsensus). only_12 (outputs_short a b before made)) k
 
-  pub turned_down : {number : ℕ} → record_kind a b listed count leaving ≡ Refused number → DuplexAs a b listed count leaving uncounted before before (Refused number)
-  turned_down {number} e =
-      let (same, h) = is_refused a b listed count leaving e in
-      let first : number ≡ refused = sym same ∙ sym (rw (ne_eqb (refusal given) 0 (λ z. h (sym same ∙ z))) at joined) in
-      record { answered = answer_refused Refused _ first h; outputs = record_refused first h }
+  pub turned_down : {refusal : Refusal} → record_kind a b listed count leaving ≡ Err refusal → DuplexAs a b listed count leaving uncounted before before (Err refusal)
+  turned_down {refusal} e =
+      let first : row ≡ Some refusal = joined ∙ ap (λ (r : Option Refusal). or_else r (only_12 (outputs_short a b before (kind_of a b)))) (is_refused a b listed count leaving e) in
+      record { answered = ap (λ (r : Option Refusal). answer r (kind_of a b)) (sym first); outputs = leaves_equal (sym first) refl (record_refused refusal _ _) }
 
-  pub none : record_kind a b listed count leaving ≡ NoRecord → DuplexAs a b listed count leaving uncounted before before NoRecord
-  unfolding refusal
+  -- What is answered where row 12 does not refuse either, and where it does.
+  pub none : record_kind a b listed count leaving ≡ Ok None → DuplexAs a b listed count leaving uncounted before before (Ok None)
   none e =
       let (z, k) = is_none a b listed count leaving e in
-      let passed : refused ≡ 0 = left_12 z k in
+      let passed : row ≡ None = left_12 z k in
       record {
-        answered = answer_passed Refused _ refl passed ∙ ap (answer Refused refused) (sym k);
-        outputs = leaves_equal refl (ap (record_arrays a b listed uncounted) (sym k)) (untouched refused before);
+        answered = ap Ok (sym k) ∙ ap (λ (r : Option Refusal). answer r (kind_of a b)) (sym passed);
+        outputs = leaves_equal refl (ap (record_arrays a b listed uncounted) (sym k)) (untouched row before);
       }
 
   module _ (now : RecordArrays) where
-    abbrev Promised : DuplexConsensus → Type 0
+    abbrev Promised : Result (Option DuplexConsensus) Refusal → Type 0
     Promised r = DuplexAs a b listed count leaving uncounted before now r
 
-    -- Strand s alone, where the record is of kind `of (Written-single n)`.
+    -- Strand s alone, where the record is of kind `of (positions s)`.
     alone :
-        (s : Strand) (of : SingleStrandRecord → DuplexConsensus)
-        → ((n : ℕ) → of (Refused-single n) ≡ Refused n)
-        → {r : SingleStrandRecord} {answered : DuplexConsensus}
-        → answered ≡ of r
-        → single_refused s.annotation s.arrays (first_strand before) ≡ refused
-        → of (Written-single (positions s)) ≡ kind_of a b
+        (s : Strand) (of : ℕ → DuplexConsensus)
+        → {r : Result ℕ Refusal} {answered : Result (Option DuplexConsensus) Refusal}
+        → answered ≡ made_of of r
+        → single_refused s.annotation s.arrays (first_strand before) ≡ row
+        → Some (of (positions s)) ≡ kind_of a b
         → single_arrays s.annotation s.arrays ≡ record_arrays a b listed uncounted (kind_of a b)
         → SingleAs s.annotation s.arrays (first_strand before) (first_strand now) r
         → Same before.b now.b
         → Promised answered
-    alone s of h told e kind written single other =
-        let number = single_refused s.annotation s.arrays (first_strand before) in
+    alone s of told e kind written single other =
+        let first = single_refused s.annotation s.arrays (first_strand before) in
         record {
-          answered = told ∙ ap of single.answered ∙ handed_single of h number _ ∙ ap (answer Refused number) kind ∙ ap (λ (n : ℕ). answer Refused n (kind_of a b)) e;
-          outputs = leaves_equal e written (leaves_first s number single.outputs other);
+          answered = told ∙ ap (made_of of) single.answered ∙ handed of first (positions s) ∙ ap (answer first) kind ∙ ap (λ (r : Option Refusal). answer r (kind_of a b)) e;
+          outputs = leaves_equal e written (leaves_first s first single.outputs other);
         }
 
-    pub alone_ab : {m : ℕ} {r : SingleStrandRecord} {answered : DuplexConsensus} → answered ≡ ab_of r → record_kind a b listed count leaving ≡ Ab m → SingleAs a.annotation a.arrays (first_strand before) (first_strand now) r → Same before.b now.b → Promised answered
+    pub alone_ab : {m : ℕ} {r : Result ℕ Refusal} {answered : Result (Option DuplexConsensus) Refusal} → answered ≡ made_of Ab r → record_kind a b listed count leaving ≡ Ok (Some (Ab m)) → SingleAs a.annotation a.arrays (first_strand before) (first_strand now) r → Same before.b now.b → Promised answered
     alone_ab told e single other =
         let (z, k, p) = is_ab a b listed count leaving e in
-        alone a ab_of (λ n. refl) told (single_12 a before p ∙ sym (left_12 z k)) (sym k) (ap (record_arrays a b listed uncounted) (sym k)) single other
+        alone a Ab told (single_12 a before p ∙ sym (left_12 z k)) (sym k) (ap (record_arrays a b listed uncounted) (sym k)) single other
 
-    pub alone_ba : {m : ℕ} {r : SingleStrandRecord} {answered : DuplexConsensus} → answered ≡ ba_of r → record_kind a b listed count leaving ≡ Ba m → SingleAs b.annotation b.arrays (first_strand before) (first_strand now) r → Same before.b now.b → Promised answered
+    pub alone_ba : {m : ℕ} {r : Result ℕ Refusal} {answered : Result (Option DuplexConsensus) Refusal} → answered ≡ made_of Ba r → record_kind a b listed count leaving ≡ Ok (Some (Ba m)) → SingleAs b.annotation b.arrays (first_strand before) (first_strand now) r → Same before.b now.b → Promised answered
     alone_ba told e single other =
         let (z, k, p) = is_ba a b listed count leaving e in
-        alone b ba_of (λ n. refl) told (single_12 b before p ∙ sym (left_12 z k)) (sym k) (ap (record_arrays a b listed uncounted) (sym k)) single other
+        alone b Ba told (single_12 b before p ∙ sym (left_12 z k)) (sym k) (ap (record_arrays a b listed uncounted) (sym k)) single other
 
-    pub both : {m : ℕ} {r : Combined} {answered : DuplexConsensus} → answered ≡ both_of r → record_kind a b listed count leaving ≡ Both m → CombinedAs (ct_input a.annotation b.annotation) a.annotation a.arrays b.annotation b.arrays listed before now r → Promised answered
+    pub both : {m : ℕ} {r : Result ℕ Refusal} {answered : Result (Option DuplexConsensus) Refusal} → answered ≡ made_of Both r → record_kind a b listed count leaving ≡ Ok (Some (Both m)) → CombinedAs (ct_input a.annotation b.annotation) a.annotation a.arrays b.annotation b.arrays listed before now r → Promised answered
     both told e combined =
         let (z, k, p, q) = is_both a b listed count leaving e in
-        let number = combine_refused a.annotation a.arrays b.annotation b.arrays before in
-        let same : number ≡ refused = both_12 a b before p q ∙ sym (left_12 z k) in
+        let first = combine_refused a.annotation a.arrays b.annotation b.arrays before in
+        let same : first ≡ row = both_12 a b before p q ∙ sym (left_12 z k) in
         record {
-          answered = told ∙ ap both_of combined.answered ∙ answer_map both_of Refused-combined number _ ∙ ap (answer Refused number) (sym k) ∙ ap (λ (n : ℕ). answer Refused n (kind_of a b)) same;
+          answered = told ∙ ap (made_of Both) combined.answered ∙ handed Both first (min (positions a) (positions b)) ∙ ap (answer first) (sym k) ∙ ap (λ (r : Option Refusal). answer r (kind_of a b)) same;
           outputs = leaves_equal same (ap (record_arrays a b listed uncounted) (sym k)) combined.outputs;
         }

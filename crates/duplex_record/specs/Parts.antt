@@ -1,30 +1,20 @@
--- The parts of a record's making: its answer, of the answer of the call that writes it, and a strand without annotation, by its lengths.
-use Rattle.std.specs.Prelude.{ℕ, Bool}
-use Rattle.methylation.specs.declared.Annotation.TheVariants.{Absent}
-use Rattle.duplex_single.specs.declared.SingleStrandRecord.{SingleStrandRecord}
-use Rattle.duplex_single.specs.declared.SingleStrandRecord.TheVariants.{Refused as Refused-single, Written as Written-single}
-use Rattle.duplex_strands.specs.declared.Combined.{Combined}
-use Rattle.duplex_strands.specs.declared.Combined.TheVariants.{Refused as Refused-combined, Written as Written-combined}
+-- The parts of a record's making: a strand as the code has it, and its answer, of the answer of the call that writes it.
+use Rattle.std.specs.Prelude.{Option, Some, None, Result, Ok, Err, ℕ, Bool, true}
+use Rattle.refusals.specs.declared.Refusal.{Refusal}
+use Rattle.vanilla_caller.specs.Strand.{arrays_in}
+use Rattle.vanilla_caller.specs.declared.VanillaConsensusRead.{VanillaConsensusRead}
+use Rattle.duplex_kind.specs.Kind.{Strand, strand, given_of}
 use Rattle.duplex_kind.specs.declared.DuplexConsensus.{DuplexConsensus}
-use Rattle.duplex_kind.specs.declared.DuplexConsensus.TheVariants.{Refused, Ab, Ba, Both}
-use Rattle.duplex_kind.specs.declared.GivenStrand.{GivenStrand}
 
-abbrev pub ab_of : SingleStrandRecord → DuplexConsensus
-ab_of (Refused-single number) = Refused number
-ab_of (Written-single n) = Ab n
+abbrev pub lent_as : Bool → VanillaConsensusRead → Strand
+lent_as present s = strand present s.annotation (arrays_in s)
 
--- A B-only record is stored as the first strand and flagged.
-abbrev pub ba_of : SingleStrandRecord → DuplexConsensus
-ba_of (Refused-single number) = Refused number
-ba_of (Written-single n) = Ba n
+-- A strand without its annotation.
+abbrev pub plain_of : Option VanillaConsensusRead → Strand
+plain_of None = given_of None
+plain_of (Some s) = strand true None (arrays_in s)
 
-abbrev pub both_of : Combined → DuplexConsensus
-both_of (Refused-combined number) = Refused number
-both_of (Written-combined n) = Both n
-
-abbrev pub plain_given : Bool → ℕ → ℕ → ℕ → ℕ → GivenStrand
-plain_given present bases quals depths errors = record {
-  present = present;
-  annotation = Absent;
-  lengths = record { bases = bases; quals = quals; depths = depths; errors = errors; evidence = record { marks = 0; unconverted = 0; converted = 0 } };
-}
+-- A record of so many positions, or the refusal.
+abbrev pub made_of : (ℕ → DuplexConsensus) → Result ℕ Refusal → Result (Option DuplexConsensus) Refusal
+made_of of (Ok n) = Ok (Some (of n))
+made_of of (Err refusal) = Err refusal

@@ -1,44 +1,44 @@
 -- The duplex record, document 01: of two strands, one or none.
-use Rattle.std.specs.Prelude.{ℕ, ◌≡◌, Bool, false, List, [], ◌∷◌, ◌++◌}
-use Rattle.lists.specs.Output.{answer}
-use Rattle.refusals.specs.Refusal.{Fault, ◌if◌, refusal, OutputTooShort}
+use Rattle.std.specs.Prelude.{Option, Some, None, Result, ℕ, ◌≡◌, Bool, false, List, [], ◌∷◌, ◌++◌}
+use Rattle.refusals.specs.declared.Refusal.{Refusal}
+use Rattle.refusals.specs.declared.Refusal.TheVariants.{OutputTooShort}
+use Rattle.refusals.specs.Refusal.{Fault, ◌if◌, refused}
+use Rattle.refusals.specs.Outcome.{answer}
 use Rattle.duplex_molecule.specs.Molecule.{ct_input}
 use Rattle.duplex_outputs.specs.Outputs.{RecordArrays, record_of, record_lengths, record_too_short, LeavesRecord}
 use Rattle.duplex_strands.specs.Combine.{both_arrays}
 use Rattle.duplex_single.specs.Single.{single_arrays}
 use Rattle.duplex_kind.specs.Kind.{Strand, annotated, kind_of, strand_faults}
 use Rattle.duplex_kind.specs.declared.DuplexConsensus.{DuplexConsensus}
-use Rattle.duplex_kind.specs.declared.DuplexConsensus.TheVariants.{Refused, NoRecord, Ab, Ba, Both}
+use Rattle.duplex_kind.specs.declared.DuplexConsensus.TheVariants.{Ab, Ba, Both}
 
 -- Nothing is written.
 abbrev pub nothing : RecordArrays
 nothing = record_of [] [] [] [] [] [] [] [] []
 
 -- What is written. `counted` is what was counted of a list of reads at each position of a record of two strands.
-abbrev pub record_arrays : Strand → Strand → Bool → (ℕ → ℕ) → DuplexConsensus → RecordArrays
-record_arrays a b listed counted (Refused number) = nothing
-record_arrays a b listed counted NoRecord = nothing
-record_arrays a b listed counted (Ab n) = single_arrays a.annotation a.arrays
-record_arrays a b listed counted (Ba n) = single_arrays b.annotation b.arrays
-record_arrays a b listed counted (Both n) =
+abbrev pub record_arrays : Strand → Strand → Bool → (ℕ → ℕ) → Option DuplexConsensus → RecordArrays
+record_arrays a b listed counted None = nothing
+record_arrays a b listed counted (Some (Ab n)) = single_arrays a.annotation a.arrays
+record_arrays a b listed counted (Some (Ba n)) = single_arrays b.annotation b.arrays
+record_arrays a b listed counted (Some (Both n)) =
     both_arrays listed counted n (ct_input a.annotation b.annotation) a.annotation a.arrays b.annotation b.arrays
 
--- Row 12's condition: only for what is written.
-abbrev pub outputs_short : Strand → Strand → RecordArrays → DuplexConsensus → Bool
-outputs_short a b out (Refused number) = false
-outputs_short a b out NoRecord = false
-outputs_short a b out (Ab n) = record_too_short n (annotated a) false (record_lengths out)
-outputs_short a b out (Ba n) = record_too_short n (annotated b) false (record_lengths out)
-outputs_short a b out (Both n) = record_too_short n (annotated a) (annotated b) (record_lengths out)
+-- Refusal 12's condition: only for what is written.
+abbrev pub outputs_short : Strand → Strand → RecordArrays → Option DuplexConsensus → Bool
+outputs_short a b out None = false
+outputs_short a b out (Some (Ab n)) = record_too_short n (annotated a) false (record_lengths out)
+outputs_short a b out (Some (Ba n)) = record_too_short n (annotated b) false (record_lengths out)
+outputs_short a b out (Some (Both n)) = record_too_short n (annotated a) (annotated b) (record_lengths out)
 
 -- Rows 7 to 10 are tested over all that is given, whether or not there will be a record.
-unfoldable pub duplex_faults : Strand → Strand → Bool → ℕ → Bool → RecordArrays → List Fault
+abbrev pub duplex_faults : Strand → Strand → Bool → ℕ → Bool → RecordArrays → List Fault
 duplex_faults a b listed count leaving out = strand_faults a b listed count leaving ++ (OutputTooShort if outputs_short a b out (kind_of a b)) ∷ []
 
-abbrev pub duplex_refused : Strand → Strand → Bool → ℕ → Bool → RecordArrays → ℕ
-duplex_refused a b listed count leaving out = refusal (duplex_faults a b listed count leaving out)
+abbrev pub duplex_refused : Strand → Strand → Bool → ℕ → Bool → RecordArrays → Option Refusal
+duplex_refused a b listed count leaving out = refused (duplex_faults a b listed count leaving out)
 
 -- What a call answers and leaves in its outputs.
-pub record DuplexAs (a b : Strand) (listed : Bool) (count : ℕ) (leaving : Bool) (counted : ℕ → ℕ) (before now : RecordArrays) (r : DuplexConsensus) : Type 0 where
-  pub answered : r ≡ answer Refused (duplex_refused a b listed count leaving before) (kind_of a b)
+pub record DuplexAs (a b : Strand) (listed : Bool) (count : ℕ) (leaving : Bool) (counted : ℕ → ℕ) (before now : RecordArrays) (r : Result (Option DuplexConsensus) Refusal) : Type 0 where
+  pub answered : r ≡ answer (duplex_refused a b listed count leaving before) (kind_of a b)
   pub outputs : LeavesRecord (duplex_refused a b listed count leaving before) (record_arrays a b listed counted (kind_of a b)) before now

@@ -1,45 +1,51 @@
 -- Where combining is not refused, the arrays reach as far as the record, and the outputs have room for it.
 --     room                                        of each length
---     plain_enough, called_enough                 for base and quality, without calls and with
+--     refused_as, combined_as                     what a call that combines answers and leaves
+--     called_enough                               for base and quality
 --     errors_enough, first_enough, second_enough  for the errors, and for the evidence of A and of B
 -- Assumes nothing.
-use mathlib.Core.Path.{◌≡◌, refl, sym}
-use mathlib.Core.Bool.{true, false, true≢false}
+use mathlib.Core.Path.{◌≡◌, refl, sym, subst, ◌∙◌}
+use mathlib.Core.Bool.{Bool, true, false, true≢false}
 use mathlib.Core.List.{[], ◌∷◌}
 use Prim.Native.Nat.{ℕ, ◌≤◌}
 use native.Mathlib.Omega.{arith}
-use Rattle.refusals.specs.Refusal.{refusal, Ragged, OutputTooShort}
-use Rattle.refusals.proofs.Refusal.{passed}
+use Rattle.refusals.specs.declared.Refusal.{Refusal}
+use Rattle.refusals.specs.Refusal.{refused}
+use Rattle.refusals.specs.Outcome.{answer}
+use Rattle.refusals.proofs.Outcome.{refused_by, passed_by}
+use Rattle.refusals.proofs.Claims.{none_lost}
 use Rattle.refusals.proofs.Condition.{Every, nor_where}
+use Rattle.methylation.specs.Arrays.{PutsEvidence}
 use Rattle.methylation.specs.Methylation.{is_annotated}
-use Rattle.methylation.specs.declared.Annotation.{Annotation}
-use Rattle.methylation.specs.declared.Annotation.TheVariants.{Absent, Of}
 use Rattle.methylation.specs.declared.ConversionPattern.TheVariants.{CToT, GToA}
-use Rattle.vanilla_caller.specs.Strand.{strand_ragged}
+use Rattle.vanilla_caller.specs.Strand.{Arrays, lengths, strand_ragged}
 use Rattle.vanilla_caller.specs.declared.Lengths.{Lengths}
 use Rattle.vanilla_caller.proofs.Strand.{even}
 use Rattle.duplex_molecule.specs.Molecule.{ct_input, can_call}
 use Rattle.duplex_molecule.specs.declared.CtInput.{CtInput}
-use Rattle.duplex_arrays.specs.Positions.{arrays_short}
-use Rattle.duplex_arrays.proofs.Short.{long_enough}
+use Rattle.duplex_arrays.specs.Positions.{arrays_short, PositionsAs, ErrorsAs}
+use Rattle.duplex_arrays.proofs.Short.{long_enough, put_all}
 use Rattle.duplex_outputs.specs.declared.RecordLengths.{RecordLengths}
-use Rattle.duplex_outputs.proofs.Outputs.{Roomy, roomy}
-use Rattle.duplex_strands.specs.Combine.{common_length, combine_faults}
+use Rattle.duplex_outputs.specs.Outputs.{RecordArrays, LeavesRecord, record_lengths}
+use Rattle.duplex_outputs.proofs.Outputs.{Roomy, roomy, PutsRecord, record_refused, record_passed}
+use Rattle.duplex_strands.specs.Combine.{common_length, kept_evidence, both_arrays, uncounted, combine_faults, combine_refused, CombinedAs}
+use Rattle.std.proofs.Common.{None, Some, Option, Result, Ok, Err}
+use Rattle.methylation.specs.declared.ConversionPattern.{ConversionPattern}
 
 -- A strand reaches n positions, and where it is annotated its evidence does.
-record Reaches (m : Annotation) (s : Lengths) (n : ℕ) : Type 0 where
+record Reaches (m : Option ConversionPattern) (s : Lengths) (n : ℕ) : Type 0 where
   bases : n ≤ s.bases
   quals : n ≤ s.quals
   depths : n ≤ s.depths
   errors : n ≤ s.errors
   evidence : is_annotated m ≡ true → (n ≤ s.evidence.marks) × (n ≤ s.evidence.unconverted) × (n ≤ s.evidence.converted)
 
-pub record Room (ma : Annotation) (a : Lengths) (mb : Annotation) (b : Lengths) (out : RecordLengths) (n : ℕ) : Type 0 where
+pub record Room (ma : Option ConversionPattern) (a : Lengths) (mb : Option ConversionPattern) (b : Lengths) (out : RecordLengths) (n : ℕ) : Type 0 where
   strand_a : Reaches ma a n
   strand_b : Reaches mb b n
   outputs : Roomy n (is_annotated ma) (is_annotated mb) out
 
-reaches : (m : Annotation) (s : Lengths) (n : ℕ) → n ≤ s.bases → strand_ragged (is_annotated m) s ≡ false → Reaches m s n
+reaches : (m : Option ConversionPattern) (s : Lengths) (n : ℕ) → n ≤ s.bases → strand_ragged (is_annotated m) s ≡ false → Reaches m s n
 reaches m s n h e =
     let same = even (is_annotated m) s e in
     record {
@@ -52,42 +58,65 @@ reaches m s n h e =
           (omega (arith, all.0), omega (arith, all.1.0), omega (arith, all.1.1.0));
     }
 
-module _ (ma : Annotation) (a : Lengths) (mb : Annotation) (b : Lengths) (out : RecordLengths) where
-  common_room : {number : ℕ} → number ≡ refusal (combine_faults ma a mb b out) → number ≡ 0 → Room ma a mb b out (common_length a b)
-  unfolding combine_faults
-  common_room e z =
+module _ (ma : Option ConversionPattern) (a : Lengths) (mb : Option ConversionPattern) (b : Lengths) (out : RecordLengths) where
+  common_room : refused (combine_faults ma a mb b out) ≡ None → Room ma a mb b out (common_length a b)
+  common_room e =
       let n = common_length a b in
-      let faults = combine_faults ma a mb b out in
-      let (even_a, even_b) = nor_where (strand_ragged (is_annotated ma) a) true (strand_ragged (is_annotated mb) b) (passed Ragged faults e z).0 in
+      let (long, (uneven, (short, none))) = none_lost (combine_faults ma a mb b out) e in
+      let (even_a, even_b) = nor_where (strand_ragged (is_annotated ma) a) true (strand_ragged (is_annotated mb) b) uneven in
       record {
         strand_a = reaches ma a n (omega arith) even_a;
         strand_b = reaches mb b n (omega arith) (even_b refl);
-        outputs = roomy n (is_annotated ma) (is_annotated mb) out (passed OutputTooShort faults e z).0;
+        outputs = roomy n (is_annotated ma) (is_annotated mb) out short;
       }
 
-  -- Number and n are what the code has.
-  pub room : {number n : ℕ} → number ≡ refusal (combine_faults ma a mb b out) → number ≡ 0 → n ≡ common_length a b → Room ma a mb b out n
-  room e z h = rw h (common_room e z)
+  -- What a call goes on with.
+  pub room : {n : ℕ} → Ok n ≡ answer (refused (combine_faults ma a mb b out)) (common_length a b) → Room ma a mb b out n
+  room h =
+      let (none, same) = passed_by _ _ (sym h) in
+      subst (λ (m : ℕ). Room ma a mb b out m) same (common_room none)
+
+module _ {ct : CtInput} {ma : Option ConversionPattern} {a : Arrays} {mb : Option ConversionPattern} {b : Arrays} {listed : Bool} {before : RecordArrays} where
+  pub refused_as :
+      {e : Refusal} {r : Result ℕ Refusal}
+      → Err e ≡ answer (combine_refused ma a mb b before) (common_length (lengths a) (lengths b))
+      → r ≡ Err e
+      → CombinedAs ct ma a mb b listed before before r
+  refused_as {e} h same = record {
+    answered = same ∙ h;
+    outputs = subst (λ (row : Option Refusal). LeavesRecord row (both_arrays listed uncounted (common_length (lengths a) (lengths b)) ct ma a mb b) before before) (sym (refused_by _ _ (sym h))) (record_refused e _ before);
+  }
+
+  written_as :
+      {n : ℕ} {now : RecordArrays}
+      → Ok n ≡ answer (combine_refused ma a mb b before) (common_length (lengths a) (lengths b))
+      → PutsRecord (both_arrays listed uncounted n ct ma a mb b) before now
+      → CombinedAs ct ma a mb b listed before now (Ok n)
+  written_as {n} {now} h puts =
+      let (none, same) = passed_by _ _ (sym h) in
+      let at_n : LeavesRecord (combine_refused ma a mb b before) (both_arrays listed uncounted n ct ma a mb b) before now =
+      subst (λ (row : Option Refusal). LeavesRecord row (both_arrays listed uncounted n ct ma a mb b) before now) (sym none) (record_passed puts) in
+      record {
+        answered = h;
+        outputs = subst (λ (m : ℕ). LeavesRecord (combine_refused ma a mb b before) (both_arrays listed uncounted m ct ma a mb b) before now) (sym same) at_n;
+      }
 
 -- There may be calls only where both strands are annotated.
-both_annotated : (ma mb : Annotation) → can_call (ct_input ma mb) ≡ true → (is_annotated ma ≡ true) × (is_annotated mb ≡ true)
+both_annotated : (ma mb : Option ConversionPattern) → can_call (ct_input ma mb) ≡ true → (is_annotated ma ≡ true) × (is_annotated mb ≡ true)
 unfolding ct_input
-both_annotated Absent mb e = absurd (true≢false (sym e))
-both_annotated (Of p) Absent e = absurd (true≢false (sym e))
-both_annotated (Of CToT) (Of CToT) e = absurd (true≢false (sym e))
-both_annotated (Of CToT) (Of GToA) e = (refl, refl)
-both_annotated (Of GToA) (Of CToT) e = (refl, refl)
-both_annotated (Of GToA) (Of GToA) e = absurd (true≢false (sym e))
+both_annotated None mb e = absurd (true≢false (sym e))
+both_annotated (Some p) None e = absurd (true≢false (sym e))
+both_annotated (Some CToT) (Some CToT) e = absurd (true≢false (sym e))
+both_annotated (Some CToT) (Some GToA) e = (refl, refl)
+both_annotated (Some GToA) (Some CToT) e = (refl, refl)
+both_annotated (Some GToA) (Some GToA) e = absurd (true≢false (sym e))
 
 never : {P : Type 0} → false ≡ true → P
 never e = absurd (true≢false (sym e))
 
-module _ {ma : Annotation} {a : Lengths} {mb : Annotation} {b : Lengths} {out : RecordLengths} {n : ℕ} (r : Room ma a mb b out n) where
+module _ {ma : Option ConversionPattern} {a : Lengths} {mb : Option ConversionPattern} {b : Lengths} {out : RecordLengths} {n : ℕ} (r : Room ma a mb b out n) where
   positions : Every (λ x. n ≤ x) (a.bases ∷ a.quals ∷ b.bases ∷ b.quals ∷ out.bases ∷ out.quals ∷ [])
   positions = (r.strand_a.bases, (r.strand_a.quals, (r.strand_b.bases, (r.strand_b.quals, (r.outputs.own.0, (r.outputs.own.1.0, tt))))))
-
-  pub plain_enough : arrays_short n false (0 ∷ 0 ∷ []) (a.bases ∷ a.quals ∷ b.bases ∷ b.quals ∷ out.bases ∷ out.quals ∷ []) ≡ false
-  plain_enough = long_enough n false _ _ never positions
 
   pub called_enough :
       {ct : CtInput}
@@ -124,3 +153,23 @@ module _ {ma : Annotation} {a : Lengths} {mb : Annotation} {b : Lengths} {out : 
   second_enough k =
       let s = r.strand_b.evidence k in
       long_enough n false _ _ never (r.strand_a.bases, (r.strand_b.bases, (s.1, (s.2, r.outputs.b k))))
+
+-- What a call answers and leaves whose arrays and errors are written, and the evidence of A and of B.
+module _ {ct : CtInput} {ma : Option ConversionPattern} {a : Arrays} {mb : Option ConversionPattern} {b : Arrays} {listed : Bool} {before now : RecordArrays} {n : ℕ} where
+  pub combined_as :
+      Ok n ≡ answer (combine_refused ma a mb b before) (common_length (lengths a) (lengths b))
+      → ct ≡ ct_input ma mb
+      → PositionsAs n ct a b before.bases before.quals now.bases now.quals
+      → ErrorsAs listed n ct a b before.errors now.errors
+      → PutsEvidence (kept_evidence n ct a b ma a) before.a now.a
+      → PutsEvidence (kept_evidence n ct a b mb b) before.b now.b
+      → CombinedAs ct ma a mb b listed before now (Ok n)
+  combined_as told meant positions errors first second =
+      let r = room ma (lengths a) mb (lengths b) (record_lengths before) told in
+      written_as told (record {
+        bases = put_all _ _ (called_enough r meant) positions.bases_now;
+        quals = put_all _ _ (called_enough r meant) positions.quals_now;
+        errors = put_all _ _ (errors_enough r) errors;
+        a = first;
+        b = second;
+      })

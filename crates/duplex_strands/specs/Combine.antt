@@ -1,10 +1,11 @@
 -- Two strands combined position by position, document 01.
-use Rattle.std.specs.Prelude.{ℕ, min, ◌≡◌, Bool, ◌||◌, List, [], ◌∷◌}
-use Rattle.lists.specs.Output.{answer}
-use Rattle.refusals.specs.Refusal.{Fault, ◌if◌, refusal, TooLong, Ragged, OutputTooShort}
+use Rattle.std.specs.Prelude.{Option, Result, ℕ, min, ◌≡◌, Bool, ◌||◌, List, [], ◌∷◌}
+use Rattle.refusals.specs.declared.Refusal.{Refusal}
+use Rattle.refusals.specs.declared.Refusal.TheVariants.{TooLong, Ragged, OutputTooShort}
+use Rattle.refusals.specs.Refusal.{Fault, ◌if◌, refused}
+use Rattle.refusals.specs.Outcome.{answer}
 use Rattle.methylation.specs.Arrays.{EvidenceArrays, evidence_arrays}
 use Rattle.methylation.specs.Methylation.{is_annotated}
-use Rattle.methylation.specs.declared.Annotation.{Annotation}
 use Rattle.vanilla_caller.specs.Strand.{Arrays, lengths, strand_too_long, strand_ragged}
 use Rattle.vanilla_caller.specs.declared.Lengths.{Lengths}
 use Rattle.duplex_molecule.specs.declared.CtInput.{CtInput}
@@ -13,20 +14,19 @@ pub use Rattle.duplex_arrays.specs.Positions.{uncounted}
 unfoldable pub use Rattle.duplex_evidence.specs.Kept.{kept_marks, kept_unconverted, kept_converted}
 use Rattle.duplex_outputs.specs.Outputs.{RecordArrays, record_lengths, record_too_short, LeavesRecord}
 use Rattle.duplex_outputs.specs.declared.RecordLengths.{RecordLengths}
-use Rattle.duplex_strands.specs.declared.Combined.{Combined}
-use Rattle.duplex_strands.specs.declared.Combined.TheVariants.{Refused, Written}
+use Rattle.methylation.specs.declared.ConversionPattern.{ConversionPattern}
 
 -- How many positions two strands of these lengths have in common.
 abbrev pub common_length : Lengths → Lengths → ℕ
 common_length a b = min a.bases b.bases
 
 -- The evidence that is written of a strand s of this annotation.
-abbrev pub kept_evidence : ℕ → CtInput → Arrays → Arrays → Annotation → Arrays → EvidenceArrays
+abbrev pub kept_evidence : ℕ → CtInput → Arrays → Arrays → Option ConversionPattern → Arrays → EvidenceArrays
 kept_evidence n ct a b annotation s =
     evidence_arrays (kept_marks n ct a b annotation s) (kept_unconverted n ct a b annotation s) (kept_converted n ct a b annotation s)
 
 -- What is written of two strands.
-abbrev pub both_arrays : Bool → (ℕ → ℕ) → ℕ → CtInput → Annotation → Arrays → Annotation → Arrays → RecordArrays
+abbrev pub both_arrays : Bool → (ℕ → ℕ) → ℕ → CtInput → Option ConversionPattern → Arrays → Option ConversionPattern → Arrays → RecordArrays
 both_arrays listed counted n ct ma a mb b = record {
   bases = combined_bases n ct a b;
   quals = combined_quals n ct a b;
@@ -36,17 +36,17 @@ both_arrays listed counted n ct ma a mb b = record {
 }
 
 -- Rows 7 and 8 are tested over both strands, by their lengths and the outputs'.
-unfoldable pub combine_faults : Annotation → Lengths → Annotation → Lengths → RecordLengths → List Fault
+abbrev pub combine_faults : Option ConversionPattern → Lengths → Option ConversionPattern → Lengths → RecordLengths → List Fault
 combine_faults ma a mb b out =
     (TooLong if (strand_too_long (is_annotated ma) a || strand_too_long (is_annotated mb) b))
     ∷ (Ragged if (strand_ragged (is_annotated ma) a || strand_ragged (is_annotated mb) b))
     ∷ (OutputTooShort if record_too_short (common_length a b) (is_annotated ma) (is_annotated mb) out)
     ∷ []
 
-abbrev pub combine_refused : Annotation → Arrays → Annotation → Arrays → RecordArrays → ℕ
-combine_refused ma a mb b out = refusal (combine_faults ma (lengths a) mb (lengths b) (record_lengths out))
+abbrev pub combine_refused : Option ConversionPattern → Arrays → Option ConversionPattern → Arrays → RecordArrays → Option Refusal
+combine_refused ma a mb b out = refused (combine_faults ma (lengths a) mb (lengths b) (record_lengths out))
 
 -- What a call that combines two strands answers and leaves in its outputs.
-pub record CombinedAs (ct : CtInput) (ma : Annotation) (a : Arrays) (mb : Annotation) (b : Arrays) (listed : Bool) (before now : RecordArrays) (r : Combined) : Type 0 where
-  pub answered : r ≡ answer Refused (combine_refused ma a mb b before) (Written (common_length (lengths a) (lengths b)))
+pub record CombinedAs (ct : CtInput) (ma : Option ConversionPattern) (a : Arrays) (mb : Option ConversionPattern) (b : Arrays) (listed : Bool) (before now : RecordArrays) (r : Result ℕ Refusal) : Type 0 where
+  pub answered : r ≡ answer (combine_refused ma a mb b before) (common_length (lengths a) (lengths b))
   pub outputs : LeavesRecord (combine_refused ma a mb b before) (both_arrays listed uncounted (common_length (lengths a) (lengths b)) ct ma a mb b) before now

@@ -1,2 +1,1 @@
 pub mod ReadBack
-pub mod Replied

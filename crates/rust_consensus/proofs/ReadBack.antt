@@ -3,7 +3,4 @@ use mathlib.Core.Path.{refl}
 use Rattle.rust_consensus.specs.ReadBack.{ReadBack}
 
 pub read_back : ReadBack
-read_back = record {
-  combined = record { refusals = λ n. refl; passes = λ x. refl; answers = λ x. refl };
-  single = record { refusals = λ n. refl; passes = λ x. refl; answers = λ x. refl };
-}
+read_back = record { written = record { refusals = λ row. refl; passes = λ x. refl; answers = λ x. refl } }

@@ -2,51 +2,46 @@
 // duplex_strands, duplex_annotated and duplex_single.
 #![tactic(auto)]
 
-ghost use Rattle.std.specs.Prelude.{◌≡◌, ◌||◌, []};
-ghost use Rattle.replies.specs.Choices.{yes, annotation_of, wrong_annotation};
-ghost use Rattle.replies.specs.Replies.{not_counted, PassedOn, RepliedAs};
-ghost use Rattle.methylation.specs.declared.Annotation.TheVariants.{Absent};
-ghost use Rattle.vanilla_caller.specs.Strand.{arrays};
+ghost use Rattle.std.specs.Prelude.{◌≡◌, ◌||◌, None, []};
+ghost use Rattle.methylation.specs.Choices.{annotation_of, wrong_annotation};
+ghost use Rattle.replies.specs.Choices.{yes};
+ghost use Rattle.replies.specs.Replies.{count_reply, not_counted, PassedOn, RepliedAs};
+ghost use Rattle.vanilla_caller.specs.Strand.{arrays, arrays_in};
 ghost use Rattle.duplex_molecule.specs.Molecule.{ct_input};
 ghost use Rattle.duplex_molecule.specs.declared.CtInput.TheVariants.{Neither};
 ghost use Rattle.duplex_outputs.specs.Outputs.{record_of};
 ghost use Rattle.duplex_strands.specs.Combine.{CombinedAs};
 ghost use Rattle.duplex_single.specs.Single.{SingleAs};
-ghost use Rattle.rust_consensus.specs.Answers.{combined_count, single_count};
 
 use duplex_annotated::combine_strands_annotated;
-use duplex_single::{SingleStrandRecord, gated_single_strand};
-use duplex_strands::{Combined, combine_strands};
-use refusals::BROKEN;
-use replies::{Count, annotation_of, wrong_annotation};
+use duplex_single::gated_single_strand;
+use duplex_strands::combine_strands;
+use methylation::EvidenceSlices;
+use refusals::Refusal;
+use replies::{Count, annotation_in};
+use vanilla_caller::VanillaConsensusRead;
 
-fn combined_count(r: Combined) -> Count
-    ensures { result ≡ combined_count r }
+// A strand without annotation.
+fn unannotated<'a>(
+    bases: &'a [u8],
+    quals: &'a [u8],
+    depths: &'a [u16],
+    errors: &'a [u16],
+) -> VanillaConsensusRead<'a>
+    ensures { arrays_in result ≡ arrays bases.now quals.now depths.now errors.now [] [] [] }
 {
-    match r {
-        Combined::Refused(number) => Count {
-            refused: number,
-            count: 0,
-        },
-        Combined::Written(n) => Count {
-            refused: 0,
-            count: n,
-        },
-    }
-}
-
-fn single_count(r: SingleStrandRecord) -> Count
-    ensures { result ≡ single_count r }
-{
-    match r {
-        SingleStrandRecord::Refused(number) => Count {
-            refused: number,
-            count: 0,
-        },
-        SingleStrandRecord::Written(n) => Count {
-            refused: 0,
-            count: n,
-        },
+    let evidence = EvidenceSlices {
+        marks: &[],
+        unconverted: &[],
+        converted: &[],
+    };
+    VanillaConsensusRead {
+        bases,
+        quals,
+        depths,
+        errors,
+        annotation: None,
+        evidence,
     }
 }
 
@@ -66,30 +61,19 @@ pub extern "C" fn gedrashiw_combine_strands(
     quals_out: &mut [u8],
     errors_out: &mut [u16],
 ) -> Count
-    ensures { PassedOn combined_count
-        (CombinedAs Neither Absent
+    ensures { PassedOn count_reply
+        (CombinedAs Neither None
         (arrays a_bases.now a_quals.now a_depths.now a_errors.now [] [] [])
-        Absent
+        None
         (arrays b_bases.now b_quals.now b_depths.now b_errors.now [] [] [])
         (yes listed))
         (record_of bases_out.old quals_out.old errors_out.old [] [] [] [] [] [])
         (record_of bases_out.new quals_out.new errors_out.new [] [] [] [] [] [])
         result }
 {
-    combined_count(combine_strands(
-        a_bases,
-        a_quals,
-        a_depths,
-        a_errors,
-        b_bases,
-        b_quals,
-        b_depths,
-        b_errors,
-        listed != 0,
-        bases_out,
-        quals_out,
-        errors_out,
-    ))
+    let a = unannotated(a_bases, a_quals, a_depths, a_errors);
+    let b = unannotated(b_bases, b_quals, b_depths, b_errors);
+    Count::from(combine_strands(a, b, listed != 0, bases_out, quals_out, errors_out))
 }
 
 // Combines strands that may be annotated. Refuses by 13, 7, 8, 12.
@@ -122,7 +106,7 @@ pub extern "C" fn gedrashiw_combine_strands_annotated(
     b_unconverted_out: &mut [u32],
     b_converted_out: &mut [u32],
 ) -> Count
-    ensures { RepliedAs (wrong_annotation a_annotation || wrong_annotation b_annotation) (not_counted 13) combined_count
+    ensures { RepliedAs (wrong_annotation a_annotation || wrong_annotation b_annotation) (not_counted 13) count_reply
         (CombinedAs (ct_input (annotation_of a_annotation) (annotation_of b_annotation)) (annotation_of a_annotation)
         (arrays a_bases.now a_quals.now a_depths.now a_errors.now a_marks.now a_unconverted.now a_converted.now)
         (annotation_of b_annotation)
@@ -132,26 +116,39 @@ pub extern "C" fn gedrashiw_combine_strands_annotated(
         (record_of bases_out.new quals_out.new errors_out.new a_marks_out.new a_unconverted_out.new a_converted_out.new b_marks_out.new b_unconverted_out.new b_converted_out.new)
         result }
 {
-    if wrong_annotation(a_annotation) | wrong_annotation(b_annotation) {
-        return combined_count(Combined::Refused(BROKEN));
-    }
-    combined_count(combine_strands_annotated(
-        a_bases,
-        a_quals,
-        a_depths,
-        a_errors,
-        annotation_of(a_annotation),
-        a_marks,
-        a_unconverted,
-        a_converted,
-        b_bases,
-        b_quals,
-        b_depths,
-        b_errors,
-        annotation_of(b_annotation),
-        b_marks,
-        b_unconverted,
-        b_converted,
+    let Ok(a_annotation) = annotation_in(a_annotation) else {
+        return Count::from(Err::<usize, Refusal>(Refusal::Broken));
+    };
+    let Ok(b_annotation) = annotation_in(b_annotation) else {
+        return Count::from(Err::<usize, Refusal>(Refusal::Broken));
+    };
+    let a = VanillaConsensusRead {
+        bases: a_bases,
+        quals: a_quals,
+        depths: a_depths,
+        errors: a_errors,
+        annotation: a_annotation,
+        evidence: EvidenceSlices {
+            marks: a_marks,
+            unconverted: a_unconverted,
+            converted: a_converted,
+        },
+    };
+    let b = VanillaConsensusRead {
+        bases: b_bases,
+        quals: b_quals,
+        depths: b_depths,
+        errors: b_errors,
+        annotation: b_annotation,
+        evidence: EvidenceSlices {
+            marks: b_marks,
+            unconverted: b_unconverted,
+            converted: b_converted,
+        },
+    };
+    Count::from(combine_strands_annotated(
+        a,
+        b,
         listed != 0,
         bases_out,
         quals_out,
@@ -183,25 +180,30 @@ pub extern "C" fn gedrashiw_gated_single_strand(
     unconverted_out: &mut [u32],
     converted_out: &mut [u32],
 ) -> Count
-    ensures { RepliedAs (wrong_annotation annotation) (not_counted 13) single_count
+    ensures { RepliedAs (wrong_annotation annotation) (not_counted 13) count_reply
         (SingleAs (annotation_of annotation)
         (arrays bases.now quals.now depths.now errors.now marks.now unconverted.now converted.now))
         (record_of bases_out.old quals_out.old errors_out.old marks_out.old unconverted_out.old converted_out.old [] [] [])
         (record_of bases_out.new quals_out.new errors_out.new marks_out.new unconverted_out.new converted_out.new [] [] [])
         result }
 {
-    if wrong_annotation(annotation) {
-        return single_count(SingleStrandRecord::Refused(BROKEN));
-    }
-    single_count(gated_single_strand(
+    let Ok(annotation) = annotation_in(annotation) else {
+        return Count::from(Err::<usize, Refusal>(Refusal::Broken));
+    };
+    let strand = VanillaConsensusRead {
         bases,
         quals,
         depths,
         errors,
-        annotation_of(annotation),
-        marks,
-        unconverted,
-        converted,
+        annotation,
+        evidence: EvidenceSlices {
+            marks,
+            unconverted,
+            converted,
+        },
+    };
+    Count::from(gated_single_strand(
+        strand,
         bases_out,
         quals_out,
         errors_out,

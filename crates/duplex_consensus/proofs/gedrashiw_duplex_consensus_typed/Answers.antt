@@ -1,29 +1,51 @@
--- `duplex_consensus::gedrashiw_duplex_consensus_typed` meets its contract: what is made without the list is as it is promised once the
--- list's errors are counted, and the entry replies by its test of the strands. Assumes nothing.
-use mathlib.Core.Path.{ap, ◌∙◌}
-use Rattle.replies.specs.Choices.{yes, annotation_of}
-use Rattle.vanilla_caller.specs.Strand.{Arrays, arrays}
+-- `duplex_consensus::gedrashiw_duplex_consensus_typed` meets its contract: a strand whose annotation is wrong is turned down; else what
+-- is made without the list is as it is promised once the list's errors are counted. Assumes nothing.
+use mathlib.Core.Path.{◌≡◌, refl, sym, ap, ◌∙◌}
+use mathlib.Core.Bool.{true, false, ◌||◌}
+use lib.ListN.{length}
+use Rattle.std.proofs.Common.{Ok, Err}
+use Rattle.methylation.specs.Choices.{annotation_of}
+use Rattle.replies.specs.Choices.{yes}
+use Rattle.replies.proofs.Replied.{turned_down, passed_on}
+use Rattle.vanilla_caller.specs.Strand.{arrays}
 use Rattle.duplex_molecule.specs.declared.CtInput.{CtInput}
 use Rattle.duplex_outputs.specs.Outputs.{record_of}
-use Rattle.duplex_kind.specs.Kind.{strand}
-use Rattle.source_reads.specs.Reads.{counted_errors}
+use Rattle.duplex_kind.specs.Kind.{strand, given_of}
+use Rattle.duplex_reply.specs.Strand.{told_by, strand_by, wrong_strand}
+use Rattle.source_reads.specs.Reads.{any_leaves, counted_errors}
 use Rattle.duplex_consensus.proofs.Made.{counted_as}
-use Rattle.duplex_consensus.proofs.Replied.{replied}
+use Rattle.duplex_consensus.proofs.Replied.{refused_in, read_in, numbered}
 use Rattle.duplex_consensus.proofs.gedrashiw_duplex_consensus_typed.Goals as goal
 
 pub returns : goal.returns
 returns c =
-    let of_a : Arrays = arrays c.args.a_bases.now c.args.a_quals.now c.args.a_depths.now c.args.a_errors.now c.args.a_marks.now c.args.a_unconverted.now c.args.a_converted.now in
-    let of_b : Arrays = arrays c.args.b_bases.now c.args.b_quals.now c.args.b_depths.now c.args.b_errors.now c.args.b_marks.now c.args.b_unconverted.now c.args.b_converted.now in
-    let counted = c.is_there-counted.result in
-    let told_a = c.annotation_of-a_told.result in
-    let told_b = c.annotation_of-b_told.result in
-    let made =
-    counted_as (strand c.is_there-a_there.result told_a of_a) (strand c.is_there-b_there.result told_b of_b) counted c.args.reads.now c.args.bytes.now
-    (record_of c.args.bases_out.now c.args.quals_out.now c.args.errors_out.now c.args.a_marks_out.now c.args.a_unconverted_out.now c.args.a_converted_out.now c.args.b_marks_out.now c.args.b_unconverted_out.now c.args.b_converted_out.now)
-    (record_of c.duplex_record-made.new.bases_out c.duplex_record-made.new.quals_out c.duplex_record-made.new.errors_out c.duplex_record-made.new.a_marks_out c.duplex_record-made.new.a_unconverted_out c.duplex_record-made.new.a_converted_out c.duplex_record-made.new.b_marks_out c.duplex_record-made.new.b_unconverted_out c.duplex_record-made.new.b_converted_out)
-    c.list_leaves-leaving.ensures c.duplex_record-made.ensures c.counted_positions-positions.ensures
+    let a = c.args in
+    let x = arrays a.a_bases.now a.a_quals.now a.a_depths.now a.a_errors.now a.a_marks.now a.a_unconverted.now a.a_converted.now in
+    let y = arrays a.b_bases.now a.b_quals.now a.b_depths.now a.b_errors.now a.b_marks.now a.b_unconverted.now a.b_converted.now in
+    let r = c.duplex_record-made.new in
+    let told_a : strand_by a.a_present a.a_annotation x ≡ Ok (given_of c.in-Ok.a) = sym c.strand_in.ensures ∙ ap told_by c.in-Ok.is in
+    let told_b : strand_by a.b_present a.b_annotation y ≡ Ok (given_of c.in-Ok-strand_in.b) = sym c.strand_in-2.ensures ∙ ap told_by c.in-Ok-strand_in.is in
+    let ct = rw (c.annotation_of.ensures, c.annotation_of-2.ensures) at c.ct_input.ensures in
+    let made = numbered a.a_present a.a_annotation a.b_present a.b_annotation x y (yes a.listed) (length a.reads.now) (any_leaves (length a.bytes.now) a.reads.now) told_a told_b c.given_list-list.ensures c.duplex_record-made.ensures in
+    let counted =
+    counted_as (strand (yes a.a_present) (annotation_of a.a_annotation) x) (strand (yes a.b_present) (annotation_of a.b_annotation) y) (yes a.listed) a.reads.now a.bytes.now
+    (record_of a.bases_out.now a.quals_out.now a.errors_out.now a.a_marks_out.now a.a_unconverted_out.now a.a_converted_out.now a.b_marks_out.now a.b_unconverted_out.now a.b_converted_out.now)
+    (record_of r.bases_out r.quals_out r.errors_out r.a_marks_out r.a_unconverted_out r.a_converted_out r.b_marks_out r.b_unconverted_out r.b_converted_out)
+    refl made c.counted_positions.ensures
     (c.count_read_errors.ensures
-    ∙ ap (λ (ct : CtInput). counted_errors c.args.reads.now c.args.bytes.now ct c.counted_positions-positions.result c.args.a_bases.now c.args.a_quals.now c.args.b_bases.now c.args.b_quals.now c.duplex_record-made.new.errors_out) c.ct_input.ensures) in
-    replied (annotation_of c.args.a_annotation) (annotation_of c.args.b_annotation) of_a of_b c.args.reads.now c.args.bytes.now (yes c.args.a_present) (yes c.args.b_present) (yes c.args.listed) c.wrong_strands-wrong.result
-    c.wrong_strands-wrong.ensures c.is_there-a_there.ensures c.is_there-b_there.ensures c.is_there-counted.ensures c.annotation_of-a_told.ensures c.annotation_of-b_told.ensures made c.consensus_reply.ensures
+    ∙ ap (λ (t : CtInput). counted_errors a.reads.now a.bytes.now t c.counted_positions.result a.a_bases.now a.a_quals.now a.b_bases.now a.b_quals.now r.errors_out) ct) in
+    let right : (wrong_strand a.a_present a.a_annotation || wrong_strand a.b_present a.b_annotation) ≡ false =
+    rw (read_in a.a_present a.a_annotation x told_a, read_in a.b_present a.b_annotation y told_b) in
+    passed_on c.duplex_record-made.result right c.from-2.ensures counted
+
+pub returns-in-Err-strand_in : goal.returns-in-Err-strand_in
+returns-in-Err-strand_in c =
+    let a = c.args in
+    let x = arrays a.a_bases.now a.a_quals.now a.a_depths.now a.a_errors.now a.a_marks.now a.a_unconverted.now a.a_converted.now in
+    let y = arrays a.b_bases.now a.b_quals.now a.b_depths.now a.b_errors.now a.b_marks.now a.b_unconverted.now a.b_converted.now in
+    let told_a : strand_by a.a_present a.a_annotation x ≡ Ok (given_of c.in-Ok.a) = sym c.strand_in.ensures ∙ ap told_by c.in-Ok.is in
+    let told_b : strand_by a.b_present a.b_annotation y ≡ Err c.in-Err-strand_in.refusal = sym c.strand_in-2.ensures ∙ ap told_by c.in-Err-strand_in.is in
+    let (wrong, broken) = refused_in a.b_present a.b_annotation y told_b in
+    let met : (wrong_strand a.a_present a.a_annotation || wrong_strand a.b_present a.b_annotation) ≡ true =
+    rw (read_in a.a_present a.a_annotation x told_a, wrong) in
+    turned_down met (rw broken at c.from-in-Err-strand_in.ensures)

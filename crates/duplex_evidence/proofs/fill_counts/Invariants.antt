@@ -1,5 +1,4 @@
 -- What the loop keeps.
-use Prim.Native.Nat.{◌-◌}
 use Rattle.lists.specs.Table.{tabulate}
 use Rattle.lists.proofs.Output.{Filling}
 use Rattle.duplex_evidence.specs.Kept.{marked_at}
@@ -7,8 +6,5 @@ use Rattle.duplex_evidence.proofs.fill_counts.Given as goal
 
 abbrev pub invariant-loop-i : goal.invariant-loop-i
 invariant-loop-i l =
-    Filling l.places (tabulate l.places (λ k. (marked_at l.marks l.unconverted l.converted k).unconverted)) l.initial.unconverted_out l.i l.unconverted_out
-    × Filling l.places (tabulate l.places (λ k. (marked_at l.marks l.unconverted l.converted k).converted)) l.initial.converted_out l.i l.converted_out
-
-abbrev pub decreases-loop-i : goal.decreases-loop-i
-decreases-loop-i l = l.places - l.i
+    Filling l.n (tabulate l.n (λ k. (marked_at l.marks l.own.unconverted.now l.own.converted.now k).unconverted)) l.initial.unconverted_out l.i l.unconverted_out
+    × Filling l.n (tabulate l.n (λ k. (marked_at l.marks l.own.unconverted.now l.own.converted.now k).converted)) l.initial.converted_out l.i l.converted_out

@@ -1,45 +1,67 @@
 -- `duplex_record::duplex_record` meets its contract: refused by what is given, or by the record's kind what the call that writes it
 -- leaves. Assumes nothing.
-use Rattle.vanilla_caller.specs.Strand.{arrays}
-use Rattle.duplex_kind.specs.Kind.{strand}
-use Rattle.duplex_record.proofs.Record.{kind_by_lem, turned_down, none, alone_ab, alone_ba, both}
+use mathlib.Core.Path.{◌≡◌, ap, ◌∙◌}
+use native.Mathlib.Omega.{arith}
+use Rattle.std.proofs.Common.{Some, Ok, is_some}
+use Rattle.std.proofs.lemmas.Result.{err_from_is_err_and}
+use Rattle.duplex_kind.specs.Kind.{given_of, count_in, leaving_in}
+use Rattle.duplex_kind.specs.declared.DuplexConsensus.{DuplexConsensus}
+use Rattle.duplex_kind.specs.declared.DuplexConsensus.TheVariants.{Ab, Ba, Both}
+use Rattle.duplex_record.specs.Parts.{made_of}
+use Rattle.duplex_record.proofs.Record.{kind_told, lent_single, lent_combined, turned_down, none, alone_ab, alone_ba, both}
 use Rattle.duplex_record.proofs.Unannotated.{unannotated}
 use Rattle.duplex_record.proofs.Untouched.{same}
 use Rattle.duplex_record.proofs.duplex_record.Goals as goal
 
-pub returns-then-is_annotated : goal.returns-then-is_annotated
-returns-then-is_annotated c =
-    let a = strand c.args.a_present c.args.a_annotation (arrays c.args.a_bases.now c.args.a_quals.now c.args.a_depths.now c.args.a_errors.now c.args.a_marks.now c.args.a_unconverted.now c.args.a_converted.now) in
-    let b = strand c.args.b_present c.args.b_annotation (arrays c.args.b_bases.now c.args.b_quals.now c.args.b_depths.now c.args.b_errors.now c.args.b_marks.now c.args.b_unconverted.now c.args.b_converted.now) in
-    both a b _ _ _ _ _ c.both_of.ensures (kind_by_lem a b _ _ _ c.lengths_of-a_lengths.ensures c.lengths_of-b_lengths.ensures c.record_kind.ensures c.in-Both.is) c.combine_strands_annotated.ensures
+pub returns-in_err-kind : goal.returns-in_err-kind
+returns-in_err-kind c =
+    let a = given_of c.args.a in
+    let b = given_of c.args.b in
+    let p = err_from_is_err_and c.from_residual.result c.from_residual.ensures.1 in
+    let kind = kind_told a b (is_some c.args.list) (count_in c.args.list) (leaving_in c.args.list) c.given_strand.ensures c.given_strand-2.ensures c.record_kind.ensures c.in_err-kind.was in
+    rw (p.1, p.2) (turned_down a b _ _ _ _ kind)
 
-pub returns-in-Refused : goal.returns-in-Refused
-returns-in-Refused c =
-    let a = strand c.args.a_present c.args.a_annotation (arrays c.args.a_bases.now c.args.a_quals.now c.args.a_depths.now c.args.a_errors.now c.args.a_marks.now c.args.a_unconverted.now c.args.a_converted.now) in
-    let b = strand c.args.b_present c.args.b_annotation (arrays c.args.b_bases.now c.args.b_quals.now c.args.b_depths.now c.args.b_errors.now c.args.b_marks.now c.args.b_unconverted.now c.args.b_converted.now) in
-    turned_down a b _ _ _ _ (kind_by_lem a b _ _ _ c.lengths_of-a_lengths.ensures c.lengths_of-b_lengths.ensures c.record_kind.ensures c.in-Refused.is)
-
-pub returns-in-NoRecord : goal.returns-in-NoRecord
-returns-in-NoRecord c =
-    let a = strand c.args.a_present c.args.a_annotation (arrays c.args.a_bases.now c.args.a_quals.now c.args.a_depths.now c.args.a_errors.now c.args.a_marks.now c.args.a_unconverted.now c.args.a_converted.now) in
-    let b = strand c.args.b_present c.args.b_annotation (arrays c.args.b_bases.now c.args.b_quals.now c.args.b_depths.now c.args.b_errors.now c.args.b_marks.now c.args.b_unconverted.now c.args.b_converted.now) in
-    none a b _ _ _ _ (kind_by_lem a b _ _ _ c.lengths_of-a_lengths.ensures c.lengths_of-b_lengths.ensures c.record_kind.ensures c.in-NoRecord.is)
+pub returns-in_default : goal.returns-in_default
+returns-in_default c =
+    let a = given_of c.args.a in
+    let b = given_of c.args.b in
+    let answer = c.in_ok-kind.was ∙ ap Ok c.in_default.is in
+    let kind = kind_told a b (is_some c.args.list) (count_in c.args.list) (leaving_in c.args.list) c.given_strand.ensures c.given_strand-2.ensures c.record_kind.ensures answer in
+    none a b _ _ _ _ kind
 
 pub returns-in-Ab : goal.returns-in-Ab
 returns-in-Ab c =
-    let a = strand c.args.a_present c.args.a_annotation (arrays c.args.a_bases.now c.args.a_quals.now c.args.a_depths.now c.args.a_errors.now c.args.a_marks.now c.args.a_unconverted.now c.args.a_converted.now) in
-    let b = strand c.args.b_present c.args.b_annotation (arrays c.args.b_bases.now c.args.b_quals.now c.args.b_depths.now c.args.b_errors.now c.args.b_marks.now c.args.b_unconverted.now c.args.b_converted.now) in
-    alone_ab a b _ _ _ _ _ c.ab_of.ensures (kind_by_lem a b _ _ _ c.lengths_of-a_lengths.ensures c.lengths_of-b_lengths.ensures c.record_kind.ensures c.in-Ab.is) c.gated_single_strand.ensures same
+    let a = given_of c.args.a in
+    let b = given_of c.args.b in
+    let answer : c.record_kind.result ≡ Ok (Some (Ab c.in-Ab.field-0)) = c.in_ok-kind.was ∙ ap Ok (c.in-Some.is ∙ ap (λ (k : DuplexConsensus). Some k) c.in-Ab.is) in
+    let kind = kind_told a b (is_some c.args.list) (count_in c.args.list) (leaving_in c.args.list) c.given_strand.ensures c.given_strand-2.ensures c.record_kind.ensures answer in
+    let told : c.map.result ≡ made_of Ab c.gated_single_strand.result = grind arith in
+    alone_ab a b _ _ _ _ _ told kind (lent_single c.lent-a.result c.lent-a.ensures c.gated_single_strand.ensures) same
 
 pub returns-in-Ba : goal.returns-in-Ba
 returns-in-Ba c =
-    let a = strand c.args.a_present c.args.a_annotation (arrays c.args.a_bases.now c.args.a_quals.now c.args.a_depths.now c.args.a_errors.now c.args.a_marks.now c.args.a_unconverted.now c.args.a_converted.now) in
-    let b = strand c.args.b_present c.args.b_annotation (arrays c.args.b_bases.now c.args.b_quals.now c.args.b_depths.now c.args.b_errors.now c.args.b_marks.now c.args.b_unconverted.now c.args.b_converted.now) in
-    alone_ba a b _ _ _ _ _ c.ba_of.ensures (kind_by_lem a b _ _ _ c.lengths_of-a_lengths.ensures c.lengths_of-b_lengths.ensures c.record_kind.ensures c.in-Ba.is) c.gated_single_strand-in-Ba.ensures same
+    let a = given_of c.args.a in
+    let b = given_of c.args.b in
+    let answer : c.record_kind.result ≡ Ok (Some (Ba c.in-Ba.field-0)) = c.in_ok-kind.was ∙ ap Ok (c.in-Some.is ∙ ap (λ (k : DuplexConsensus). Some k) c.in-Ba.is) in
+    let kind = kind_told a b (is_some c.args.list) (count_in c.args.list) (leaving_in c.args.list) c.given_strand.ensures c.given_strand-2.ensures c.record_kind.ensures answer in
+    let told : c.map-in-Ba.result ≡ made_of Ba c.gated_single_strand-in-Ba.result = grind arith in
+    alone_ba a b _ _ _ _ _ told kind (lent_single c.lent-b.result c.lent-b.ensures c.gated_single_strand-in-Ba.ensures) same
 
-pub returns-else-is_annotated : goal.returns-else-is_annotated
-returns-else-is_annotated c =
-    let a = strand c.args.a_present c.args.a_annotation (arrays c.args.a_bases.now c.args.a_quals.now c.args.a_depths.now c.args.a_errors.now c.args.a_marks.now c.args.a_unconverted.now c.args.a_converted.now) in
-    let b = strand c.args.b_present c.args.b_annotation (arrays c.args.b_bases.now c.args.b_quals.now c.args.b_depths.now c.args.b_errors.now c.args.b_marks.now c.args.b_unconverted.now c.args.b_converted.now) in
-    let none = rw (c.is_annotated.ensures, c.is_annotated-in-Both.ensures) at c.if-is_annotated.false in
-    both a b _ _ _ _ _ c.both_of-in-Both.ensures (kind_by_lem a b _ _ _ c.lengths_of-a_lengths.ensures c.lengths_of-b_lengths.ensures c.record_kind.ensures c.in-Both.is) (unannotated _ _ _ _ _ none c.combine_strands.ensures (record { a = same; b = same }))
+pub returns-then-is_some : goal.returns-then-is_some
+returns-then-is_some c =
+    let a = given_of c.args.a in
+    let b = given_of c.args.b in
+    let answer : c.record_kind.result ≡ Ok (Some (Both c.in-Both.field-0)) = c.in_ok-kind.was ∙ ap Ok (c.in-Some.is ∙ ap (λ (k : DuplexConsensus). Some k) c.in-Both.is) in
+    let kind = kind_told a b (is_some c.args.list) (count_in c.args.list) (leaving_in c.args.list) c.given_strand.ensures c.given_strand-2.ensures c.record_kind.ensures answer in
+    let told : c.map-then-is_some.result ≡ made_of Both c.combine_strands_annotated.result = grind arith in
+    both a b _ _ _ _ _ told kind (lent_combined c.lent-a.result c.lent-b.result c.lent-a.ensures c.lent-b.ensures (rw c.is_some-then-is_some.ensures at c.combine_strands_annotated.ensures))
+
+pub returns-else-is_some : goal.returns-else-is_some
+returns-else-is_some c =
+    let a = given_of c.args.a in
+    let b = given_of c.args.b in
+    let answer : c.record_kind.result ≡ Ok (Some (Both c.in-Both.field-0)) = c.in_ok-kind.was ∙ ap Ok (c.in-Some.is ∙ ap (λ (k : DuplexConsensus). Some k) c.in-Both.is) in
+    let kind = kind_told a b (is_some c.args.list) (count_in c.args.list) (leaving_in c.args.list) c.given_strand.ensures c.given_strand-2.ensures c.record_kind.ensures answer in
+    let told : c.map-in-Both.result ≡ made_of Both c.combine_strands.result = grind arith in
+    let none = rw (c.is_some.ensures, c.is_some-in-Both.ensures) at c.if-is_some.false in
+    both a b _ _ _ _ _ told kind (lent_combined c.lent-a.result c.lent-b.result c.lent-a.ensures c.lent-b.ensures (unannotated _ _ _ _ _ none (rw c.is_some-in-Both-2.ensures at c.combine_strands.ensures) (record { a = same; b = same })))

@@ -1,8 +1,0 @@
--- `duplex_evidence::evidence_short` meets its contract: it computes the definition. Assumes nothing.
-use mathlib.Core.Path.{refl}
-use Rattle.duplex_arrays.specs.Positions.{arrays_short}
-use Rattle.duplex_evidence.proofs.evidence_short.Goals as goal
-
-pub returns : goal.returns
-unfolding arrays_short
-returns c = refl
