@@ -1,109 +1,172 @@
--- Laws of the call.
---     joined              the code's chain of tests, the library's number among them
---     decoded_lengths     how many numbers are decoded
---     clear               where the call is not refused, nor is the library's call, and there is room
---     narrow              then what is decoded fits its arrays
---     never               the library's call then answers a record
---     none_taken          of an absent second strand
+-- Laws of the call on bytes.
+--     entry_at, clear            its refusal: row 13, then the library's, then row 12; of a call that answered 0
+--     told_given, odd_given      what the code has of the arguments
+--     seen_as                    the arguments with a number for whether there is a second strand
+--     narrow                     where the library's call is not refused, what is decoded fits its arrays
+--     not_met, is_met, no_refusal, the_refusal, always     what the answers of the tests say
+--     refused_as, written_as     what a call answers and leaves
+--     entry_written, entry_told  the same with the answer as a number
 -- Assumes nothing.
-use mathlib.Core.Path.{◌≡◌, refl, sym, ap, ◌∙◌}
-use mathlib.Core.Bool.{Bool, true, false, not, cond}
-use mathlib.Core.List.{List, [], ◌∷◌, ◌++◌}
-use Prim.Native.Nat.{ℕ, zero, suc, ◌-◌, ◌/◌, ◌≤◌}
+use mathlib.Core.Path.{◌≡◌, refl, sym, ap, subst, ◌∙◌}
+use mathlib.Core.Bool.{Bool, true, false, cond}
+use mathlib.Core.List.{List}
+use Prim.Native.Nat.{ℕ, ◌/◌, ◌≤◌}
 use native.Mathlib.Omega.{arith}
-use borrow.Author.Tests.{ltb-false, ne_eqb}
-use lib.Dec.{eqb, ltb}
-use lib.ListN.{length, take, length-take}
-use Rattle.lists.proofs.Output.{answer_passed}
+use borrow.Author.Tests.{ltb-false, eqb-false}
+use lib.Dec.{ltb}
+use lib.ListN.{length}
+use Rattle.std.proofs.Common.{Option, Some, None, Result, Ok, Err}
+use Rattle.std.specs.Bool.{then_some}
+use Rattle.lists.specs.Output.{put}
+use Rattle.lists.specs.Part.{only_if}
+use Rattle.byte_numbers.specs.Bytes.{bytes32}
 use Rattle.byte_numbers.proofs.Bytes.{length_numbers}
-use Rattle.refusals.specs.Refusal.{Fault, ◌if◌, order, sorted, refusal, refuse_if, Broken, OutputTooShort}
-use Rattle.refusals.proofs.Refusal.{and_then}
-use Rattle.duplex_metrics.specs.Metrics.{Input, lengths, metrics_faults, metrics_refused, metrics_of}
-use Rattle.duplex_metrics.specs.declared.Metrics.TheVariants.{Refused}
+use Rattle.refusals.specs.declared.Refusal.{Refusal}
+use Rattle.refusals.specs.declared.Refusal.TheVariants.{Broken, TooLong, Ragged, OutputTooShort}
+use Rattle.refusals.specs.Refusal.{refused, number_of, number_or_0}
+use Rattle.refusals.specs.Outcome.{answer, refused_if}
+use Rattle.refusals.proofs.InOrder.{numbered_from_1}
+use Rattle.duplex_metrics.specs.Metrics.{Input, input, lengths, metrics_refused, metrics_faults, metrics_of, record_of}
+use Rattle.duplex_metrics.specs.declared.CountsLengths.{CountsLengths}
 use Rattle.duplex_metrics.specs.declared.MetricsLengths.{MetricsLengths}
-use Rattle.duplex_metrics.proofs.Few.{Few, few}
+use Rattle.duplex_metrics.proofs.Few.{few}
 use Rattle.metrics_bits.specs.Bits.{metrics_words}
-use Rattle.metrics_bits.specs.declared.MetricsWords.TheVariants.{Refused as Refused-words}
-use Rattle.c_metrics.specs.Bytes.{Narrow, decoded, halves, entry_faults}
+use Rattle.metrics_bits.specs.declared.MetricsBits.{MetricsBits}
+use Rattle.c_metrics.specs.Bytes.{Narrow, MetricsAs, MetricsEntry, seen, bytes_given, byte_counts, halves, second_halves, decoded, odd_bytes, odd_counts, entry_refused, record_words}
+use Rattle.c_metrics.specs.declared.CountsBytes.{CountsBytes}
 
--- A call that tests row 13, then another's faults, then row 12.
-wrapped :
-    (p : Bool) (fs : List Fault) (q : Bool)
-    → sorted order ((Broken if p) ∷ (fs ++ ((OutputTooShort if q) ∷ []))) ≡ (Broken if p) ∷ sorted order (fs ++ ((OutputTooShort if q) ∷ []))
-    → sorted order (fs ++ ((OutputTooShort if q) ∷ [])) ≡ sorted order fs ++ ((OutputTooShort if q) ∷ [])
-    → refusal ((Broken if p) ∷ (fs ++ ((OutputTooShort if q) ∷ []))) ≡ cond p 13 (cond (eqb (refusal fs) 0) (cond q 12 0) (refusal fs))
-unfolding refusal
-wrapped p fs q first last =
-    and_then ((Broken if p) ∷ []) (fs ++ ((OutputTooShort if q) ∷ [])) first
-    ∙ go p (refusal (fs ++ ((OutputTooShort if q) ∷ [])))
-    ∙ ap (λ (n : ℕ). cond p 13 n) (and_then fs ((OutputTooShort if q) ∷ []) last)
-  where
-    go : (p : Bool) (n : ℕ) → cond (eqb (cond p 13 0) 0) n (cond p 13 0) ≡ cond p 13 n
-    go true n = refl
-    go false n = refl
+abbrev or_else : Option Refusal → Option Refusal → Option Refusal
+or_else None later = later
+or_else (Some row) later = Some row
 
-refusal_is :
-    (broken : Bool) (n : MetricsLengths) (out : ℕ)
-    → refusal (entry_faults broken n out) ≡ cond broken 13 (cond (eqb (refusal (metrics_faults n)) 0) (cond (ltb out 40) 12 0) (refusal (metrics_faults n)))
-unfolding entry_faults metrics_faults
-refusal_is broken n out = wrapped broken (metrics_faults n) (ltb out 40) refl refl
+abbrev short_row : Bool → Option Refusal
+short_row short = cond short (Some OutputTooShort) None
 
-pub joined :
-    (broken : Bool) (n : MetricsLengths) (out : ℕ) {first inner second last : ℕ}
-    → first ≡ refuse_if 0 broken 13
-    → inner ≡ refusal (metrics_faults n)
-    → second ≡ refuse_if first (not (eqb inner 0)) inner
-    → last ≡ refuse_if second (ltb out 40) 12
-    → last ≡ refusal (entry_faults broken n out)
-unfolding refuse_if
-joined broken n out {first} {inner} {second} e f g h = rw (h, g, e, refusal_is, ← f) (go broken inner (ltb out 40))
-  where
-    go : (p : Bool) (i : ℕ) (q : Bool) → refuse_if (refuse_if (refuse_if 0 p 13) (not (eqb i 0)) i) q 12 ≡ cond p 13 (cond (eqb i 0) (cond q 12 0) i)
-    go true i q = refl
-    go false zero q = refl
-    go false (suc i) q = rw (ne_eqb (suc i) 0 (λ e. omega arith), ne_eqb (suc i) 0 (λ e. omega arith))
+rows : (long uneven short : Bool) → cond long (Some TooLong) (cond uneven (Some Ragged) (short_row short)) ≡ or_else (cond long (Some TooLong) (cond uneven (Some Ragged) None)) (short_row short)
+rows true uneven short = refl
+rows false true short = refl
+rows false false short = refl
 
-pub decoded_lengths : (x : Input) → lengths (decoded x) ≡ halves (lengths x)
-unfolding halves
-decoded_lengths x = simp length_numbers
+entry_is : (x : Input) (before : List ℕ) → entry_refused x before ≡ cond (odd_counts x) (Some Broken) (or_else (metrics_refused (decoded x)) (short_row (ltb (length before) 40)))
+entry_is x before = ap (λ (o : Option Refusal). cond (odd_counts x) (Some Broken) o) (rows _ _ (ltb (length before) 40))
 
-pub clear : (broken : Bool) (n : MetricsLengths) (out : ℕ) {number : ℕ} → number ≡ refusal (entry_faults broken n out) → number ≡ 0 → (refusal (metrics_faults n) ≡ 0) × (40 ≤ out)
-clear broken n out e z =
-    let (passed, room) = go broken (refusal (metrics_faults n)) (ltb out 40) (sym (refusal_is broken n out) ∙ sym e ∙ z) in
-    (passed, ltb-false out 40 room)
-  where
-    go : (p : Bool) (i : ℕ) (q : Bool) → ◌≡◌ {A = ℕ} (cond p 13 (cond (eqb i 0) (cond q 12 0) i)) 0 → (i ≡ 0) × (q ≡ false)
-    go true i q e = absurd (omega arith)
-    go false zero true e = absurd (omega arith)
-    go false zero false e = (refl, refl)
-    go false (suc i) q e = absurd (let no = rw (ne_eqb (suc i) 0 (λ e. omega arith)) at e in omega arith)
+-- By the outcome of each test.
+pub entry_at :
+    (x : Input) (before : List ℕ) (o : Bool) (m : Option Refusal) (s : Bool)
+    → odd_counts x ≡ o
+    → metrics_refused (decoded x) ≡ m
+    → ltb (length before) 40 ≡ s
+    → entry_refused x before ≡ cond o (Some Broken) (or_else m (short_row s))
+entry_at x before o m s e f g =
+    entry_is x before
+    ∙ ap (λ (b : Bool). cond b (Some Broken) (or_else (metrics_refused (decoded x)) (short_row (ltb (length before) 40)))) e
+    ∙ ap (λ (r : Option Refusal). cond o (Some Broken) (or_else r (short_row (ltb (length before) 40)))) f
+    ∙ ap (λ (b : Bool). cond o (Some Broken) (or_else m (short_row b))) g
 
--- Up to 1,024 numbers of the second strand, be it there or not.
-either : (second : Bool) (n : ℕ) → (second ≡ false → n ≡ 0) → (second ≡ true → n / 2 ≤ 1024) → n / 2 ≤ 1024
-either true n none some = some refl
-either false n none some = omega (arith, none refl)
+module _ (a : CountsBytes) (bases errors : List ℕ) where
+  abbrev lengths_by : Option CountsBytes → MetricsLengths
+  lengths_by b = record { a = halves (byte_counts (Some a)); b = second_halves b; bases = length bases; errors = length errors / 2 }
 
-pub narrow : (x : Input) → metrics_refused (decoded x) ≡ 0 → (x.second ≡ false → length x.b ≡ 0) → (x.second ≡ false → length x.b_errors ≡ 0) → Narrow x
-unfolding halves
-narrow x z b be =
-    let s : Few _ = rw decoded_lengths at (few (lengths (decoded x)) refl z) in
-    record {
-      a = s.a;
-      a_errors = s.a_errors;
-      b = either x.second (length x.b) b (λ h. (s.b h).0);
-      b_errors = either x.second (length x.b_errors) be (λ h. (s.b h).1);
-      errors = s.errors;
-    }
+  lengths_given :
+      (b : Option CountsBytes)
+      → lengths_by b ≡ lengths (decoded (bytes_given a b bases errors))
+  lengths_given None = simp length_numbers
+  lengths_given (Some b) = simp length_numbers
 
-pub never : (x : Input) {k : ℕ} → metrics_refused x ≡ 0 → metrics_words (metrics_of x) ≡ Refused-words k → ⊥
-unfolding metrics_of
-never x {k} z e =
-    let record_is = ap metrics_words (answer_passed Refused _ (sym z) refl) ∙ e in
-    let no : ◌≡◌ {A = ℕ} 0 1 = cc in
-    omega arith
+  pub told_given :
+      (b : Option CountsBytes) {n : CountsLengths} {m : Option CountsLengths} {told : Result (Unit {0}) Refusal}
+      → n ≡ halves (byte_counts (Some a))
+      → m ≡ second_halves b
+      → told ≡ answer (refused (metrics_faults (record { a = n; b = m; bases = length bases; errors = length errors / 2 }))) tt
+      → told ≡ answer (metrics_refused (decoded (bytes_given a b bases errors))) tt
+  told_given b n m e =
+      e ∙ rw (n, m) (ap (λ (l : MetricsLengths). answer (refused (metrics_faults l)) tt) (lengths_given b))
 
--- r bytes of an array of the second strand are looked at: all or none.
-pub none_taken : (second : Bool) (xs : List ℕ) {r : ℕ} → r ≡ cond second (length xs) 0 → second ≡ false → length (take (r - 0) xs) ≡ 0
-none_taken second xs {r} e h =
-    let none : r ≡ 0 = rw h at e in
-    omega (arith, length-take (r - 0) xs)
+  pub odd_given : (b : Option CountsBytes) → odd_bytes (byte_counts (Some a)) (byte_counts b) (length errors) ≡ odd_counts (bytes_given a b bases errors)
+  odd_given None = refl
+  odd_given (Some b) = refl
+
+  pub narrow : (b : Option CountsBytes) → metrics_refused (decoded (bytes_given a b bases errors)) ≡ None → Narrow (bytes_given a b bases errors)
+  narrow b z = go b z
+    where
+      go : (b : Option CountsBytes) → metrics_refused (decoded (bytes_given a b bases errors)) ≡ None → Narrow (bytes_given a b bases errors)
+      go None z =
+          let s = few (lengths (decoded (bytes_given a None bases errors))) z in
+          record {
+            a = omega (arith, s.a.depths, length_numbers 2 a.depths.now);
+            a_errors = omega (arith, s.a.errors, length_numbers 2 a.errors.now);
+            b = omega arith;
+            b_errors = omega arith;
+            errors = omega (arith, s.errors, length_numbers 2 errors);
+          }
+      go (Some b) z =
+          let s = few (lengths (decoded (bytes_given a (Some b) bases errors))) z in
+          record {
+            a = omega (arith, s.a.depths, length_numbers 2 a.depths.now);
+            a_errors = omega (arith, s.a.errors, length_numbers 2 a.errors.now);
+            b = omega (arith, s.b.depths, length_numbers 2 b.depths.now);
+            b_errors = omega (arith, s.b.errors, length_numbers 2 b.errors.now);
+            errors = omega (arith, s.errors, length_numbers 2 errors);
+          }
+
+-- An absent second strand's bytes are not looked at.
+second_seen :
+    (a b : CountsBytes) (second : Bool) (bases errors : List ℕ)
+    → bytes_given a (then_some second b) bases errors ≡ seen (input a.depths.now a.errors.now second b.depths.now b.errors.now bases errors)
+unfolding only_if
+second_seen a b true bases errors = refl
+second_seen a b false bases errors = refl
+
+pub seen_as :
+    (a b : CountsBytes) (second : Bool) (bases errors before : List ℕ) {given : Option CountsBytes} {now : List ℕ} {r : Result (Unit {0}) Refusal}
+    → given ≡ then_some second b
+    → MetricsAs (bytes_given a given bases errors) before now r
+    → MetricsAs (seen (input a.depths.now a.errors.now second b.depths.now b.errors.now bases errors)) before now r
+seen_as a b second bases errors before {given} {now} {r} e m =
+    subst (λ (x : Input). MetricsAs x before now r) (ap (λ (o : Option CountsBytes). bytes_given a o bases errors) e ∙ second_seen a b second bases errors) m
+
+pub not_met : (met : Bool) (row : Refusal) {u : Unit {0}} → refused_if met row ≡ Ok u → met ≡ false
+not_met true row e = absurd cc
+not_met false row e = refl
+
+pub is_met : (met : Bool) {row e : Refusal} → refused_if met row ≡ Err e → (met ≡ true) × (row ≡ e)
+is_met true e = (refl, cc)
+is_met false e = absurd cc
+
+pub no_refusal : (row : Option Refusal) {u : Unit {0}} → answer {A = Unit {0}} row tt ≡ Ok u → row ≡ None
+no_refusal None e = refl
+no_refusal (Some row) e = absurd cc
+
+pub the_refusal : (row : Option Refusal) {e : Refusal} → answer {A = Unit {0}} row tt ≡ Err e → row ≡ Some e
+the_refusal None e = absurd cc
+the_refusal (Some row) e = cc
+
+pub always : (x : Input) → metrics_refused x ≡ None → {e : Refusal} → metrics_words (metrics_of x) ≡ Err e → ⊥
+always x z {e} h =
+    let made = ap (λ (row : Option Refusal). metrics_words (answer row (record_of x))) z in
+    cc
+
+module _ (x : Input) (before : List ℕ) where
+  pub refused_as : {e : Refusal} {r : Result (Unit {0}) Refusal} → r ≡ Err e → entry_refused x before ≡ Some e → MetricsAs x before before r
+  refused_as h e = record { answered = h ∙ ap (λ (row : Option Refusal). answer {A = Unit {0}} row tt) (sym e); left = rw e }
+
+  pub written_as : {now : List ℕ} {m : MetricsBits} → entry_refused x before ≡ None → metrics_words (metrics_of (decoded x)) ≡ Ok m → now ≡ put (bytes32 (record_words m)) before → MetricsAs x before now (Ok tt)
+  written_as e f w = record { answered = rw e; left = w ∙ rw (e, f) }
+
+  -- With the answer as a number.
+  pub entry_written : {now : List ℕ} {u : Unit {0}} → MetricsAs x before now (Ok u) → MetricsEntry x before now 0
+  entry_written m = record { answered = sym (ap number_or_0 (no_refusal (entry_refused x before) (sym m.answered))); left = m.left }
+
+  pub entry_told : {now : List ℕ} {e : Refusal} {n : ℕ} → MetricsAs x before now (Err e) → n ≡ number_of e → MetricsEntry x before now n
+  entry_told m h = record { answered = h ∙ sym (ap number_or_0 (the_refusal (entry_refused x before) (sym m.answered))); left = m.left }
+
+  pub clear : number_or_0 (entry_refused x before) ≡ 0 → (metrics_refused (decoded x) ≡ None) × (40 ≤ length before)
+  clear z =
+      let (passed, room) = go (odd_counts x) (metrics_refused (decoded x)) (ltb (length before) 40) (sym (ap number_or_0 (entry_is x before)) ∙ z) in
+      (passed, ltb-false (length before) 40 room)
+    where
+      go : (o : Bool) (m : Option Refusal) (s : Bool) → number_or_0 (cond o (Some Broken) (or_else m (short_row s))) ≡ 0 → (m ≡ None) × (s ≡ false)
+      go true m s z = absurd (omega (arith, z))
+      go false (Some row) s z = absurd (eqb-false (number_of row) 0 (numbered_from_1 row) z)
+      go false None true z = absurd (omega (arith, z))
+      go false None false z = (refl, refl)

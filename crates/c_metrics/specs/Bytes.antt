@@ -1,16 +1,18 @@
 -- The metrics of a record from bytes to bytes, document 01's form for the viewer: the library's call `duplex_metrics` on the numbers
 -- that the bytes stand for.
-use Rattle.std.specs.Prelude.{ℕ, ◌/◌, ◌≤◌, ◌≡◌, Bool, List, [], ◌∷◌, ◌++◌, length}
-use Rattle.lists.specs.Output.{after}
+use Rattle.std.specs.Prelude.{ℕ, ◌/◌, ◌≤◌, ◌≡◌, Bool, true, false, Option, Some, None, Result, Ok, Err, List, [], ◌∷◌, ◌++◌, length}
 use Rattle.lists.specs.Part.{only_if}
 use Rattle.byte_numbers.specs.Bytes.{words16, odd_count, bytes32}
-use Rattle.refusals.specs.Refusal.{Fault, ◌if◌, any, too_short, refusal, Broken, OutputTooShort}
-use Rattle.duplex_metrics.specs.Metrics.{Input, input, lengths, metrics_faults, metrics_of}
+use Rattle.refusals.specs.declared.Refusal.{Refusal}
+use Rattle.refusals.specs.declared.Refusal.TheVariants.{Broken, OutputTooShort}
+use Rattle.refusals.specs.Refusal.{Fault, ◌if◌, any, too_short, refused, number_or_0}
+use Rattle.refusals.specs.Outcome.{answer, after}
+use Rattle.duplex_metrics.specs.Metrics.{Input, input, counts_lengths, lengths, metrics_faults, metrics_of}
+use Rattle.duplex_metrics.specs.declared.CountsLengths.{CountsLengths}
 use Rattle.duplex_metrics.specs.declared.MetricsLengths.{MetricsLengths}
 use Rattle.metrics_bits.specs.Bits.{metrics_words}
 use Rattle.metrics_bits.specs.declared.MetricsBits.{MetricsBits}
-use Rattle.metrics_bits.specs.declared.MetricsWords.{MetricsWords}
-use Rattle.metrics_bits.specs.declared.MetricsWords.TheVariants.{Refused, Of}
+use Rattle.c_metrics.specs.declared.CountsBytes.{CountsBytes}
 
 -- The arrays as bytes, of which an absent second strand's are not looked at.
 abbrev pub seen : Input → Input
@@ -20,16 +22,19 @@ seen x = input x.a x.a_errors x.second (only_if x.second x.b) (only_if x.second 
 abbrev pub decoded : Input → Input
 decoded x = input (words16 x.a) (words16 x.a_errors) x.second (words16 x.b) (words16 x.b_errors) x.bases (words16 x.errors)
 
--- Row 13: a byte count does not fit the width. A base is one byte, so theirs fits.
-unfoldable pub odd_counts : MetricsLengths → Bool
-odd_counts n = any odd_count (n.a ∷ n.aErrors ∷ n.b ∷ n.bErrors ∷ n.errors ∷ [])
+-- Refusal 13: a byte count does not fit the width. A base is one byte, so theirs fits.
+abbrev pub odd_bytes : CountsLengths → CountsLengths → ℕ → Bool
+odd_bytes a b errors = any odd_count (a.depths ∷ a.errors ∷ b.depths ∷ b.errors ∷ errors ∷ [])
 
--- Row 13, then what refuses the library's call, then row 12 for 40 bytes of output.
-unfoldable pub entry_faults : Bool → MetricsLengths → ℕ → List Fault
+abbrev pub odd_counts : Input → Bool
+odd_counts x = odd_bytes (counts_lengths x.a x.a_errors) (counts_lengths x.b x.b_errors) (length x.errors)
+
+-- Refusal 13, then what refuses the library's call, then row 12 for 40 bytes of output.
+abbrev pub entry_faults : Bool → MetricsLengths → ℕ → List Fault
 entry_faults broken n out = (Broken if broken) ∷ (metrics_faults n ++ ((OutputTooShort if too_short 40 (out ∷ [])) ∷ []))
 
-abbrev pub entry_refused : Input → List ℕ → ℕ
-entry_refused x out = refusal (entry_faults (odd_counts (lengths x)) (lengths (decoded x)) (length out))
+abbrev pub entry_refused : Input → List ℕ → Option Refusal
+entry_refused x out = refused (entry_faults (odd_counts x) (lengths (decoded x)) (length out))
 
 -- A record as ten numbers.
 unfoldable pub record_words : MetricsBits → List ℕ
@@ -47,28 +52,41 @@ record_words r =
     ∷ []
 
 -- The library's answer as bytes: a record's, and none for a refusal.
-abbrev pub metrics_bytes : MetricsWords → List ℕ
-metrics_bytes (Refused n) = []
-metrics_bytes (Of r) = bytes32 (record_words r)
+abbrev pub metrics_bytes : Result MetricsBits Refusal → List ℕ
+metrics_bytes (Err refusal) = []
+metrics_bytes (Ok r) = bytes32 (record_words r)
 
--- What a call answers and leaves in its output, given these arrays. A rate is its bits.
+-- What a call leaves in its output, given these arrays.
+abbrev pub metrics_left : Input → List ℕ → List ℕ
+metrics_left x before = after (entry_refused x before) (metrics_bytes (metrics_words (metrics_of (decoded x)))) before
+
+-- What it answers and leaves. A rate is its bits.
+pub record MetricsAs (x : Input) (before after_call : List ℕ) (r : Result (Unit {0}) Refusal) : Type 0 where
+  pub answered : r ≡ answer (entry_refused x before) tt
+  pub left : after_call ≡ metrics_left x before
+
+-- The same with the answer as a number.
 pub record MetricsEntry (x : Input) (before after_call : List ℕ) (r : ℕ) : Type 0 where
-  pub answered : r ≡ entry_refused x before
-  pub left : after_call ≡ after (entry_refused x before) (metrics_bytes (metrics_words (metrics_of (decoded x)))) before
+  pub answered : r ≡ number_or_0 (entry_refused x before)
+  pub left : after_call ≡ metrics_left x before
 
--- For the functions below the call.
+-- For the code, which has a strand's two arrays as one value.
 
--- How many numbers, and bases, so many bytes are.
-unfoldable pub halves : MetricsLengths → MetricsLengths
-halves n = record {
-  a = n.a / 2;
-  aErrors = n.aErrors / 2;
-  second = n.second;
-  b = n.b / 2;
-  bErrors = n.bErrors / 2;
-  bases = n.bases;
-  errors = n.errors / 2;
-}
+abbrev pub bytes_given : CountsBytes → Option CountsBytes → List ℕ → List ℕ → Input
+bytes_given a None bases errors = input a.depths.now a.errors.now false [] [] bases errors
+bytes_given a (Some b) bases errors = input a.depths.now a.errors.now true b.depths.now b.errors.now bases errors
+
+abbrev pub byte_counts : Option CountsBytes → CountsLengths
+byte_counts None = counts_lengths [] []
+byte_counts (Some s) = counts_lengths s.depths.now s.errors.now
+
+-- How many numbers so many bytes are.
+abbrev pub halves : CountsLengths → CountsLengths
+halves n = record { depths = n.depths / 2; errors = n.errors / 2 }
+
+abbrev pub second_halves : Option CountsBytes → Option CountsLengths
+second_halves None = None
+second_halves (Some s) = Some (halves (counts_lengths s.depths.now s.errors.now))
 
 -- Bytes of at most 1,024 numbers an array.
 pub record Narrow (x : Input) : Type 0 where

@@ -3,18 +3,23 @@
 // Uses lists, refusals, byte_numbers, duplex_metrics and metrics_bits.
 #![tactic(auto)]
 
-ghost use Rattle.std.specs.Prelude.{◌≡◌, false, ◌≤◌, length};
+ghost use Rattle.std.specs.Prelude.{◌≡◌, ◌≤◌, length};
 ghost use Rattle.lists.specs.Output.{put};
 ghost use Rattle.byte_numbers.specs.Bytes.{odd_count, bytes32};
-ghost use Rattle.refusals.specs.Refusal.{refusal};
-ghost use Rattle.duplex_metrics.specs.Metrics.{input, metrics_of};
+ghost use Rattle.duplex_metrics.specs.Metrics.{metrics_of};
 ghost use Rattle.metrics_bits.specs.Bits.{metrics_words};
-ghost use Rattle.c_metrics.specs.Bytes.{Narrow, MetricsEntry, seen, decoded, odd_counts, halves, entry_faults, record_words};
+ghost use Rattle.c_metrics.specs.Bytes.{Narrow, MetricsAs, bytes_given, byte_counts, halves, second_halves, decoded, odd_bytes, record_words};
 
-use byte_numbers::{read_u16s, write_u32s};
-use duplex_metrics::{MetricsLengths, counted, metrics_refusal};
-use metrics_bits::{MetricsBits, MetricsWords, metrics_bits};
-use refusals::{BROKEN, OUTPUT_TOO_SHORT, refuse_if};
+use duplex_metrics::{Counts, CountsLengths, MetricsLengths, metrics_refusal};
+use metrics_bits::{MetricsBits, metrics_bits};
+use refusals::{Refusal, refuse};
+
+// A strand's depths and errors as bytes.
+#[derive(Clone, Copy)]
+pub struct CountsBytes<'a> {
+    pub depths: &'a [u8],
+    pub errors: &'a [u8],
+}
 
 // The bytes of a metrics record: ten numbers of four bytes.
 pub const METRICS_BYTES: usize = 40;
@@ -24,41 +29,45 @@ fn write_record(r: MetricsBits, out: &mut [u8])
     ensures { out.new ≡ put (bytes32 (record_words r)) out.old }
 {
     let words = [r.aD, r.aM, r.aE, r.bD, r.bM, r.bE, r.cD, r.cM, r.cE, r.nc];
-    write_u32s(&words, out);
+    byte_numbers::write(&words, out);
 }
 
 // The library's call on the decoded numbers.
 fn decoded_metrics(
-    a_depths: &[u8],
-    a_errors: &[u8],
-    second: bool,
-    b_depths: &[u8],
-    b_errors: &[u8],
+    a: CountsBytes,
+    b: Option<CountsBytes>,
     bases: &[u8],
     errors: &[u8],
-) -> MetricsWords
-    requires { Narrow (input a_depths.now a_errors.now second b_depths.now b_errors.now bases.now errors.now) }
-    ensures { result ≡ metrics_words (metrics_of (decoded (input a_depths.now a_errors.now second b_depths.now b_errors.now bases.now errors.now))) }
+) -> Result<MetricsBits, Refusal>
+    requires { Narrow (bytes_given a b bases.now errors.now) }
+    ensures { result ≡ metrics_words (metrics_of (decoded (bytes_given a.entry b.entry bases.now errors.now))) }
 {
-    let mut a = [0; 1024];
-    let mut a_wrong = [0; 1024];
-    let mut b = [0; 1024];
-    let mut b_wrong = [0; 1024];
-    let mut wrong = [0; 1024];
-    read_u16s(a_depths, &mut a);
-    read_u16s(a_errors, &mut a_wrong);
-    read_u16s(b_depths, &mut b);
-    read_u16s(b_errors, &mut b_wrong);
-    read_u16s(errors, &mut wrong);
-    metrics_bits(
-        &a[0..a_depths.len() / 2],
-        &a_wrong[0..a_errors.len() / 2],
-        second,
-        &b[0..b_depths.len() / 2],
-        &b_wrong[0..b_errors.len() / 2],
-        bases,
-        &wrong[0..errors.len() / 2],
-    )
+    // No heap: arrays of the most that is looked at.
+    let mut a_depths = [0; 1024];
+    let mut a_errors = [0; 1024];
+    let mut b_depths = [0; 1024];
+    let mut b_errors = [0; 1024];
+    let mut own = [0; 1024];
+    byte_numbers::read(a.depths, &mut a_depths);
+    byte_numbers::read(a.errors, &mut a_errors);
+    byte_numbers::read(errors, &mut own);
+    let first = Counts {
+        depths: &a_depths[0..a.depths.len() / 2],
+        errors: &a_errors[0..a.errors.len() / 2],
+    };
+    let own = &own[0..errors.len() / 2];
+    match b {
+        Some(b) => {
+            byte_numbers::read(b.depths, &mut b_depths);
+            byte_numbers::read(b.errors, &mut b_errors);
+            let second = Counts {
+                depths: &b_depths[0..b.depths.len() / 2],
+                errors: &b_errors[0..b.errors.len() / 2],
+            };
+            metrics_bits(first, Some(second), bases, own)
+        }
+        None => metrics_bits(first, None, bases, own),
+    }
 }
 
 fn odd(n: usize) -> bool
@@ -67,103 +76,71 @@ fn odd(n: usize) -> bool
     n % 2 != 0
 }
 
-// Row 13's condition, for byte counts.
-fn odd_counts(n: MetricsLengths) -> bool
-    ensures { result ≡ odd_counts n }
+// How many bytes a strand's arrays are; none of an absent strand.
+fn byte_counts(s: Option<CountsBytes>) -> CountsLengths
+    ensures { result ≡ byte_counts s.entry }
 {
-    odd(n.a) | (odd(n.aErrors) | (odd(n.b) | (odd(n.bErrors) | odd(n.errors))))
+    match s {
+        Some(s) => CountsLengths {
+            depths: s.depths.len(),
+            errors: s.errors.len(),
+        },
+        None => CountsLengths {
+            depths: 0,
+            errors: 0,
+        },
+    }
 }
 
-// How many numbers, and bases, so many bytes are.
-fn halved(n: MetricsLengths) -> MetricsLengths
+// Row 13's condition, for byte counts.
+fn odd_bytes(a: CountsLengths, b: CountsLengths, errors: usize) -> bool
+    ensures { result ≡ odd_bytes a b errors }
+{
+    odd(a.depths) | (odd(a.errors) | (odd(b.depths) | (odd(b.errors) | odd(errors))))
+}
+
+// How many numbers so many bytes are.
+fn halved(n: CountsLengths) -> CountsLengths
     ensures { result ≡ halves n }
 {
-    MetricsLengths {
-        a: n.a / 2,
-        aErrors: n.aErrors / 2,
-        second: n.second,
-        b: n.b / 2,
-        bErrors: n.bErrors / 2,
-        bases: n.bases,
+    CountsLengths {
+        depths: n.depths / 2,
         errors: n.errors / 2,
     }
 }
 
-// The number that refuses arrays of these byte counts and an output of this length, 0 for none.
-fn entry_refusal(n: MetricsLengths, out: usize) -> u8
-    ensures { result ≡ refusal (entry_faults (odd_counts n) (halves n) out) }
+// The same of a strand that may be absent.
+fn second_halved(s: Option<CountsBytes>) -> Option<CountsLengths>
+    ensures { result ≡ second_halves s.entry }
 {
-    let broken = odd_counts(n);
-    let inner = metrics_refusal(halved(n));
-    let number = refuse_if(0, broken, BROKEN);
-    let number = refuse_if(number, inner != 0, inner);
-    refuse_if(number, out < METRICS_BYTES, OUTPUT_TOO_SHORT)
-}
-
-// The call, given what is looked at: an absent second strand is empty.
-fn write_metrics(
-    a_depths: &[u8],
-    a_errors: &[u8],
-    second: bool,
-    b_depths: &[u8],
-    b_errors: &[u8],
-    bases: &[u8],
-    errors: &[u8],
-    out: &mut [u8],
-) -> u8
-    requires b_depths_len { second ≡ false → length b_depths.now ≡ 0 }
-    requires b_errors_len { second ≡ false → length b_errors.now ≡ 0 }
-    ensures { MetricsEntry (input a_depths.now a_errors.now second b_depths.now b_errors.now bases.now errors.now) out.old out.new result }
-{
-    let lengths = MetricsLengths {
-        a: a_depths.len(),
-        aErrors: a_errors.len(),
-        second,
-        b: b_depths.len(),
-        bErrors: b_errors.len(),
-        bases: bases.len(),
-        errors: errors.len(),
-    };
-    let number = entry_refusal(lengths, out.len());
-    if number != 0 {
-        return number;
-    }
-    let metrics = decoded_metrics(
-        a_depths, a_errors, second, b_depths, b_errors, bases, errors,
-    );
-    match metrics {
-        MetricsWords::Refused(refused) => refused,
-        MetricsWords::Of(record) => {
-            write_record(record, out);
-            0
-        }
+    match s {
+        Some(_) => Some(halved(byte_counts(s))),
+        None => None,
     }
 }
 
 // The metrics of a record, document 01's "Metrics", as 40 bytes: aD, aM, aE, bD, bM, bE, cD, cM, cE, nc. Depths and errors are
-// 16-bit numbers, those written are 32-bit numbers, and a rate is its bits. Answers 0, or the number of the refusal: 13, 7, 8, 12.
+// 16-bit numbers, those written are 32-bit numbers, and a rate is its bits. Refuses by 13, 7, 8, 12.
 pub fn metrics_of_bytes(
-    a_depths: &[u8],
-    a_errors: &[u8],
-    second: bool,
-    b_depths: &[u8],
-    b_errors: &[u8],
+    a: CountsBytes,
+    b: Option<CountsBytes>,
     bases: &[u8],
     errors: &[u8],
     out: &mut [u8],
-) -> u8
-    ensures { MetricsEntry (seen (input a_depths.now a_errors.now second b_depths.now b_errors.now bases.now errors.now)) out.old out.new result }
+) -> Result<(), Refusal>
+    ensures { MetricsAs (bytes_given a.entry b.entry bases.now errors.now) out.old out.new result }
 {
-    let b_count = counted(second, b_depths.len());
-    let b_error_count = counted(second, b_errors.len());
-    write_metrics(
-        a_depths,
-        a_errors,
-        second,
-        &b_depths[0..b_count],
-        &b_errors[0..b_error_count],
-        bases,
-        errors,
-        out,
-    )
+    let a_counts = byte_counts(Some(a));
+    let b_counts = byte_counts(b);
+    refuse(odd_bytes(a_counts, b_counts, errors.len()), Refusal::Broken)?;
+    metrics_refusal(MetricsLengths {
+        a: halved(a_counts),
+        b: second_halved(b),
+        bases: bases.len(),
+        errors: errors.len() / 2,
+    })?;
+    refuse(out.len() < METRICS_BYTES, Refusal::OutputTooShort)?;
+    let record = decoded_metrics(a, b, bases, errors)?;
+    write_record(record, out);
+    Ok(())
 }

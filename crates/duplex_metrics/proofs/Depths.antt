@@ -31,21 +31,20 @@ capped_length [] = refl
 capped_length (x ∷ xs) = ap suc (capped_length xs)
 
 pub capped_at : (xs : List ℕ) (i : ℕ) → get_or (capped xs) i 0 ≡ short (get_or xs i 0)
-unfolding capped short
+unfolding capped
 capped_at [] i = refl
 capped_at (x ∷ xs) zero = refl
 capped_at (x ∷ xs) (suc i) = capped_at xs i
 
 pub short_bound : (n : ℕ) → short n ≤ 32767
-unfolding short
 short_bound n = omega arith
 
 pub depth_bound : (a b : List ℕ) (i : ℕ) → record_depth a b i ≤ 65534
-unfolding record_depth short
+unfolding record_depth
 depth_bound a b i = omega arith
 
 pub one_strand : (xs : List ℕ) → record_depths (length xs) xs [] ≡ capped xs
-unfolding record_depths record_depth capped tabulate short
+unfolding record_depths record_depth capped tabulate
 one_strand [] = refl
 one_strand (x ∷ xs) = ap₂ ◌∷◌ (add-zero (short x)) (one_strand xs)
 

@@ -1,76 +1,65 @@
 -- Where the metrics are not refused, no array that is looked at has over 1,024 elements, and those of one strand or record have as many each.
---     few                     what passing means
---     only_few                of an array of the second strand, where there is one
---     part_few, looked_at, part_same     of the part of it that is looked at
+--     few          what passing means
+--     second_few   of a call's arguments, where there is a second strand
+--     only_few     of an array of the second strand, where there is one
 -- Assumes nothing.
 use mathlib.Core.Path.{◌≡◌, refl}
-use mathlib.Core.Bool.{Bool, true, false, cond, ◌||◌}
+use mathlib.Core.Bool.{Bool, true, false, ◌||◌}
 use mathlib.Core.List.{List, [], ◌∷◌}
-use Prim.Native.Nat.{ℕ, ◌-◌, ◌≤◌}
-use native.Mathlib.Nat.{sub-zero}
+use Prim.Native.Nat.{ℕ, ◌≤◌}
 use native.Mathlib.Omega.{arith}
-use lib.ListN.{length, take, length-take}
+use lib.ListN.{length}
+use Rattle.std.proofs.Common.{Option, Some, None, IfSome}
 use Rattle.lists.specs.Part.{only_if}
-use Rattle.lists.proofs.Part.{all_or_none_lem}
-use Rattle.refusals.specs.Refusal.{too_long, ragged, refusal, TooLong, Ragged}
-use Rattle.refusals.proofs.Refusal.{passed}
-use Rattle.refusals.proofs.Condition.{neither, nor_where, not_too_long, not_ragged}
-use Rattle.duplex_metrics.specs.Metrics.{metrics_faults}
+use Rattle.refusals.specs.Refusal.{too_long, ragged, refused}
+use Rattle.refusals.proofs.Claims.{none_lost}
+use Rattle.refusals.proofs.Condition.{neither, not_too_long, not_ragged}
+use Rattle.duplex_metrics.specs.Metrics.{Input, lengths, metrics_faults, counts_long, counts_ragged, of_second}
+use Rattle.duplex_metrics.specs.declared.CountsLengths.{CountsLengths}
 use Rattle.duplex_metrics.specs.declared.MetricsLengths.{MetricsLengths}
 
+pub record FewCounts (n : CountsLengths) : Type 0 where
+  pub depths : n.depths ≤ 1024
+  pub errors : n.errors ≤ 1024
+  pub same : n.errors ≡ n.depths
+
 pub record Few (n : MetricsLengths) : Type 0 where
-  pub a : n.a ≤ 1024
-  pub a_errors : n.aErrors ≤ 1024
+  pub a : FewCounts n.a
+  pub b : IfSome n.b FewCounts
   pub bases : n.bases ≤ 1024
   pub errors : n.errors ≤ 1024
-  pub b : n.second ≡ true → (n.b ≤ 1024) × (n.bErrors ≤ 1024)
-  pub same_a : n.aErrors ≡ n.a
-  pub same_b : n.second ≡ true → n.bErrors ≡ n.b
   pub same : n.errors ≡ n.bases
 
-pub few : (n : MetricsLengths) {number : ℕ} → number ≡ refusal (metrics_faults n) → number ≡ 0 → Few n
-unfolding metrics_faults
-few n e z =
-    let first = n.a ∷ n.aErrors ∷ n.bases ∷ n.errors ∷ [] in
-    let second = n.b ∷ n.bErrors ∷ [] in
-    let (short, short_second) = nor_where (too_long first) n.second (too_long second) (passed TooLong (metrics_faults n) e z).0 in
-    let each = not_too_long first short in
-    let (even, even_second) = nor_where (ragged (n.a ∷ n.aErrors ∷ []) || ragged (n.bases ∷ n.errors ∷ [])) n.second (ragged second) (passed Ragged (metrics_faults n) e z).0 in
-    let (even_a, even_record) = neither (ragged (n.a ∷ n.aErrors ∷ [])) (ragged (n.bases ∷ n.errors ∷ [])) even in
+few_counts : (n : CountsLengths) → counts_long n ≡ false → counts_ragged n ≡ false → FewCounts n
+few_counts n short even =
+    let each = not_too_long (n.depths ∷ n.errors ∷ []) short in
+    record { depths = each.0; errors = each.1.0; same = (not_ragged n.depths (n.errors ∷ []) even).0 }
+
+few_second : (n : Option CountsLengths) → of_second counts_long n ≡ false → of_second counts_ragged n ≡ false → IfSome n FewCounts
+few_second None short even = tt
+few_second (Some n) short even = few_counts n short even
+
+pub few : (n : MetricsLengths) → refused (metrics_faults n) ≡ None → Few n
+few n z =
+    let clear = none_lost (metrics_faults n) z in
+    let (short, short_second) = neither (counts_long n.a || too_long (n.bases ∷ n.errors ∷ [])) (of_second counts_long n.b) clear.0 in
+    let (short_a, short_record) = neither (counts_long n.a) (too_long (n.bases ∷ n.errors ∷ [])) short in
+    let (even, even_second) = neither (counts_ragged n.a || ragged (n.bases ∷ n.errors ∷ [])) (of_second counts_ragged n.b) clear.1.0 in
+    let (even_a, even_record) = neither (counts_ragged n.a) (ragged (n.bases ∷ n.errors ∷ [])) even in
+    let each = not_too_long (n.bases ∷ n.errors ∷ []) short_record in
     record {
-      a = each.0;
-      a_errors = each.1.0;
-      bases = each.1.1.0;
-      errors = each.1.1.1.0;
-      b = λ h. let both = not_too_long second (short_second h) in (both.0, both.1.0);
-      same_a = (not_ragged n.a (n.aErrors ∷ []) even_a).0;
-      same_b = λ h. (not_ragged n.b (n.bErrors ∷ []) (even_second h)).0;
+      a = few_counts n.a short_a even_a;
+      b = few_second n.b short_second even_second;
+      bases = each.0;
+      errors = each.1.0;
       same = (not_ragged n.bases (n.errors ∷ []) even_record).0;
     }
+
+-- Of a call's arguments: the second strand's arrays, where there is one.
+pub second_few : (x : Input) → Few (lengths x) → x.second ≡ true → (length x.b ≤ 1024) × (length x.b_errors ≤ 1024)
+second_few x f h = let b = rw h at f.b in (b.depths, b.errors)
 
 pub only_few : (second : Bool) (xs : List ℕ) → (second ≡ true → length xs ≤ 1024) → length (only_if second xs) ≤ 1024
 unfolding only_if
 only_few true xs h = h refl
 only_few false xs h = omega arith
-
--- The part of an array of the second strand that is looked at, r elements of it: all or none.
-module _ (second : Bool) (xs : List ℕ) {r : ℕ} (e : r ≡ cond second (length xs) 0) where
-  pub part_few : (second ≡ true → length xs ≤ 1024) → length (take (r - 0) xs) ≤ 1024
-  part_few h = omega (arith, length-take (r - 0) xs, go second e h)
-    where
-      go : (b : Bool) → r ≡ cond b (length xs) 0 → (b ≡ true → length xs ≤ 1024) → r ≤ 1024
-      go true e h = omega (arith, h refl)
-      go false e h = omega arith
-
-  pub looked_at : take (r - 0) xs ≡ only_if second xs
-  looked_at = rw (sub-zero r) (all_or_none_lem second (length xs) xs e (λ h. omega arith))
-
--- The parts of the second strand's two arrays have as many elements.
-pub part_same :
-    (second : Bool) (xs ys : List ℕ) {r s : ℕ}
-    → r ≡ cond second (length xs) 0
-    → s ≡ cond second (length ys) 0
-    → (second ≡ true → length ys ≡ length xs)
-    → length (take (r - 0) xs) ≡ length (take (s - 0) ys)
-part_same true xs ys {r} {s} e f same = omega (arith, length-take (r - 0) xs, length-take (s - 0) ys, same refl)
-part_same false xs ys {r} {s} e f same = omega (arith, length-take (r - 0) xs, length-take (s - 0) ys)

@@ -1,4 +1,5 @@
 pub mod Depths
 pub mod Few
+pub mod Given
 pub mod Returned
 pub mod SoFar

@@ -4,30 +4,26 @@
 -- Assumes nothing.
 use mathlib.Core.Path.{◌≡◌, refl}
 use mathlib.Core.Bool.{not}
-use Prim.Native.Nat.{ℕ, zero, suc}
 use native.Mathlib.Omega.{arith}
 use lib.Dec.{T}
 use lib.ListN.{length}
 use lib.Ieee.{is_nan}
-use Rattle.lists.specs.Output.{unless, answer}
+use Rattle.std.proofs.Common.{Option, Some, None, Ok}
 use Rattle.lists.specs.Part.{only_if}
+use Rattle.refusals.specs.declared.Refusal.{Refusal}
+use Rattle.refusals.specs.Outcome.{answer}
 use Rattle.rates.proofs.Rates.{number}
-use Rattle.duplex_metrics.specs.Metrics.{Input, strand_figures, record_figures, figures_a, figures_b, figures_c, no_calls, lengths, metrics_refused, metrics_record, metrics_of}
-use Rattle.duplex_metrics.specs.declared.Metrics.TheVariants.{Refused, Of}
+use Rattle.duplex_metrics.specs.Metrics.{Input, strand_figures, record_figures, figures_a, figures_b, figures_c, no_calls, lengths, metrics_refused, metrics_record, record_of, metrics_of}
 use Rattle.duplex_metrics.specs.declared.MetricsRecord.{MetricsRecord}
 use Rattle.duplex_metrics.proofs.Depths.{depths_sum, capped_sum}
-use Rattle.duplex_metrics.proofs.Few.{Few, few, only_few}
+use Rattle.duplex_metrics.proofs.Few.{Few, few, second_few, only_few}
 
-returned : (n : ℕ) (r s : MetricsRecord) → answer Refused n (Of r) ≡ Of s → (n ≡ 0) × (s ≡ r)
-unfolding answer unless
-returned zero r s e = (refl, cc)
-returned (suc n) r s e =
-    let no : ◌≡◌ {A = ℕ} 0 1 = cc in
-    absurd (omega arith)
+returned : (row : Option Refusal) (r s : MetricsRecord) → answer row r ≡ Ok s → (row ≡ None) × (s ≡ r)
+returned None r s e = (refl, cc)
+returned (Some row) r s e = absurd cc
 
-module _ (x : Input) (r : MetricsRecord) (e : metrics_of x ≡ Of r) where
-  both : (metrics_refused x ≡ 0) × (r ≡ metrics_record (figures_a x) (figures_b x) (figures_c x) (no_calls x))
-  unfolding metrics_of
+module _ (x : Input) (r : MetricsRecord) (e : metrics_of x ≡ Ok r) where
+  both : (metrics_refused x ≡ None) × (r ≡ record_of x)
   both = returned (metrics_refused x) _ r e
 
   pub record_is : r ≡ metrics_record (figures_a x) (figures_b x) (figures_c x) (no_calls x)
@@ -35,22 +31,22 @@ module _ (x : Input) (r : MetricsRecord) (e : metrics_of x ≡ Of r) where
 
   -- No array is too long.
   short : Few (lengths x)
-  short = few (lengths x) refl both.0
+  short = few (lengths x) both.0
 
   pub a_number : T (not (is_nan r.aE))
-  unfolding metrics_record strand_figures
-  a_number = rw record_is (number _ _ (omega (arith, capped_sum x.a_errors, short.a_errors)) (omega (arith, capped_sum x.a, short.a)))
+  unfolding strand_figures
+  a_number = rw record_is (number _ _ (omega (arith, capped_sum x.a_errors, short.a.errors)) (omega (arith, capped_sum x.a, short.a.depths)))
 
   pub b_number : T (not (is_nan r.bE))
-  unfolding metrics_record strand_figures
+  unfolding strand_figures
   b_number =
       let b = only_if x.second x.b in
       let errors = only_if x.second x.b_errors in
       rw record_is
-      (number _ _ (omega (arith, capped_sum errors, only_few x.second x.b_errors (λ h. (short.b h).1))) (omega (arith, capped_sum b, only_few x.second x.b (λ h. (short.b h).0))))
+      (number _ _ (omega (arith, capped_sum errors, only_few x.second x.b_errors (λ h. (second_few x short h).1))) (omega (arith, capped_sum b, only_few x.second x.b (λ h. (second_few x short h).0))))
 
   pub c_number : T (not (is_nan r.cE))
-  unfolding metrics_record record_figures
+  unfolding record_figures
   c_number =
       rw record_is
       (number _ _ (omega (arith, capped_sum x.errors, short.errors)) (omega (arith, depths_sum (length x.errors) x.a (only_if x.second x.b), short.errors)))

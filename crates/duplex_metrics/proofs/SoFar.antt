@@ -104,7 +104,7 @@ module _ {first : ℕ} {ds es : List ℕ} {ns : List Bool} where
   done {i} at h = at.so_far_is ∙ rw (take_all i ds h.0, take_all i es h.1, take_all i ns h.2)
 
 pub depths_first : (n : ℕ) (a b : List ℕ) → length a ≡ n → length b ≤ n → record_depth a b 0 ≡ get_or (record_depths n a b) 0 0
-unfolding record_depths record_depth tabulate short
+unfolding record_depths record_depth tabulate
 depths_first zero [] [] h k = refl
 depths_first zero [] (y ∷ ys) h k = absurd (omega (arith, k))
 depths_first zero (x ∷ xs) b h k = absurd (omega (arith, h))

@@ -1,22 +1,22 @@
 -- The metrics of a duplex record, document 01: depths and errors are capped at 32,767 at each position before anything else.
-use Rattle.std.specs.Prelude.{ℕ, ◌+◌, Bool, ◌&&◌, ◌||◌, List, [], ◌∷◌, map, eqb, ltb, length, get_or, Float}
+use Rattle.std.specs.Prelude.{ℕ, ◌+◌, ◌≡◌, ◌≤◌, Bool, true, false, cond, ◌&&◌, ◌||◌, Option, Some, None, Result, List, [], ◌∷◌, map, eqb, ltb, length, get_or, Float}
 use Rattle.lists.specs.Count.{count_of}
-use Rattle.lists.specs.Output.{answer}
 use Rattle.lists.specs.Part.{only_if}
 use Rattle.lists.specs.Table.{tabulate}
-use Rattle.refusals.specs.Refusal.{Fault, ◌if◌, too_long, ragged, refusal, TooLong, Ragged}
+use Rattle.refusals.specs.declared.Refusal.{Refusal}
+use Rattle.refusals.specs.declared.Refusal.TheVariants.{TooLong, Ragged}
+use Rattle.refusals.specs.Refusal.{Fault, ◌if◌, too_long, ragged, refused}
+use Rattle.refusals.specs.Outcome.{answer}
 use Rattle.numbers.specs.Numbers.{largest, smallest, total}
 use Rattle.dna.specs.Dna.{letter_n}
 use Rattle.rates.specs.Rate.{rate_of}
-use Rattle.caller.specs.Rate.{rate_faults}
+use Rattle.caller.specs.Rate.{rate_refused}
 use Rattle.caller.specs.Short.{short}
+use Rattle.duplex_metrics.specs.declared.Counts.{Counts}
+use Rattle.duplex_metrics.specs.declared.CountsLengths.{CountsLengths}
 use Rattle.duplex_metrics.specs.declared.Figures.{Figures}
-use Rattle.duplex_metrics.specs.declared.Metrics.{Metrics}
-use Rattle.duplex_metrics.specs.declared.Metrics.TheVariants.{Refused, Of}
 use Rattle.duplex_metrics.specs.declared.MetricsLengths.{MetricsLengths}
 use Rattle.duplex_metrics.specs.declared.MetricsRecord.{MetricsRecord}
-use Rattle.duplex_metrics.specs.declared.StrandMetrics.{StrandMetrics}
-use Rattle.duplex_metrics.specs.declared.StrandMetrics.TheVariants.{Refused as Refused-strand, Of as Of-strand}
 
 -- Each element capped.
 unfoldable pub capped : List ℕ → List ℕ
@@ -53,7 +53,7 @@ is_no_call base depth = eqb base letter_n && ltb 0 depth
 unfoldable pub record_no_calls : List ℕ → List ℕ → List ℕ → ℕ
 record_no_calls a b bases = count_of (λ (met : Bool). met) (tabulate (length bases) (λ i. is_no_call (get_or bases i 0) (record_depth a b i)))
 
-unfoldable pub metrics_record : Figures → Figures → Figures → ℕ → MetricsRecord
+abbrev pub metrics_record : Figures → Figures → Figures → ℕ → MetricsRecord
 metrics_record a b c nc = record {
   aD = a.largest;
   aM = a.smallest;
@@ -95,30 +95,75 @@ figures_c x = record_figures x.a (only_if x.second x.b) x.errors
 abbrev pub no_calls : Input → ℕ
 no_calls x = record_no_calls x.a (only_if x.second x.b) x.bases
 
+abbrev pub counts_lengths : List ℕ → List ℕ → CountsLengths
+counts_lengths depths errors = record { depths = length depths; errors = length errors }
+
 abbrev pub lengths : Input → MetricsLengths
 lengths x = record {
-  a = length x.a;
-  aErrors = length x.a_errors;
-  second = x.second;
-  b = length x.b;
-  bErrors = length x.b_errors;
+  a = counts_lengths x.a x.a_errors;
+  b = cond x.second (Some (counts_lengths x.b x.b_errors)) None;
   bases = length x.bases;
   errors = length x.errors;
 }
 
+-- Rows 7 and 8 for a strand's arrays.
+abbrev pub counts_long : CountsLengths → Bool
+counts_long n = too_long (n.depths ∷ n.errors ∷ [])
+
+abbrev pub counts_ragged : CountsLengths → Bool
+counts_ragged n = ragged (n.depths ∷ n.errors ∷ [])
+
 -- The second strand's arrays count where there is one.
-unfoldable pub metrics_faults : MetricsLengths → List Fault
+abbrev pub of_second : (CountsLengths → Bool) → Option CountsLengths → Bool
+of_second p None = false
+of_second p (Some n) = p n
+
+abbrev pub metrics_faults : MetricsLengths → List Fault
 metrics_faults n =
-    (TooLong if (too_long (n.a ∷ n.aErrors ∷ n.bases ∷ n.errors ∷ []) || (n.second && too_long (n.b ∷ n.bErrors ∷ []))))
-    ∷ (Ragged if ((ragged (n.a ∷ n.aErrors ∷ []) || ragged (n.bases ∷ n.errors ∷ [])) || (n.second && ragged (n.b ∷ n.bErrors ∷ []))))
+    (TooLong if ((counts_long n.a || too_long (n.bases ∷ n.errors ∷ [])) || of_second counts_long n.b))
+    ∷ (Ragged if ((counts_ragged n.a || ragged (n.bases ∷ n.errors ∷ [])) || of_second counts_ragged n.b))
     ∷ []
 
-abbrev pub metrics_refused : Input → ℕ
-metrics_refused x = refusal (metrics_faults (lengths x))
+abbrev pub metrics_refused : Input → Option Refusal
+metrics_refused x = refused (metrics_faults (lengths x))
 
-unfoldable pub metrics_of : Input → Metrics
-metrics_of x = answer Refused (metrics_refused x) (Of (metrics_record (figures_a x) (figures_b x) (figures_c x) (no_calls x)))
+-- The record where no row refuses.
+abbrev pub record_of : Input → MetricsRecord
+record_of x = metrics_record (figures_a x) (figures_b x) (figures_c x) (no_calls x)
+
+abbrev pub metrics_of : Input → Result MetricsRecord Refusal
+metrics_of x = answer (metrics_refused x) (record_of x)
 
 -- The metrics of one strand.
-unfoldable pub strand_metrics : List ℕ → List ℕ → StrandMetrics
-strand_metrics depths errors = answer Refused-strand (refusal (rate_faults (length depths) (length errors))) (Of-strand (strand_figures depths errors))
+abbrev pub strand_metrics : List ℕ → List ℕ → Result Figures Refusal
+strand_metrics depths errors = answer (rate_refused (length depths) (length errors)) (strand_figures depths errors)
+
+-- For the code, which has a strand's two arrays as one value.
+
+abbrev pub input_of : Counts → Option Counts → List ℕ → List ℕ → Input
+input_of a None bases errors = input a.depths.now a.errors.now false [] [] bases errors
+input_of a (Some b) bases errors = input a.depths.now a.errors.now true b.depths.now b.errors.now bases errors
+
+abbrev pub lengths_in : Counts → CountsLengths
+lengths_in s = counts_lengths s.depths.now s.errors.now
+
+abbrev pub second_lengths : Option Counts → Option CountsLengths
+second_lengths None = None
+second_lengths (Some s) = Some (lengths_in s)
+
+-- The depths of a strand that may be absent, and its figures.
+abbrev pub depths_in : Option Counts → List ℕ
+depths_in None = []
+depths_in (Some s) = s.depths.now
+
+abbrev pub figures_in_counts : Option Counts → Figures
+figures_in_counts None = strand_figures [] []
+figures_in_counts (Some s) = strand_figures s.depths.now s.errors.now
+
+-- As many depths as errors, and few.
+abbrev pub Even : Counts → Type 0
+Even s = (length s.depths.now ≡ length s.errors.now) × (length s.errors.now ≤ 1024)
+
+abbrev pub EvenIfThere : Option Counts → Type 0
+EvenIfThere None = Unit {0}
+EvenIfThere (Some s) = Even s

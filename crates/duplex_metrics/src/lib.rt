@@ -2,33 +2,52 @@
 // anything else. Uses lists, refusals, numbers, dna, rates and caller.
 #![tactic(auto)]
 
-ghost use Rattle.std.specs.Prelude.{◌≡◌, ◌≤◌, ◌<◌, true, cond, [], length, get_or};
+ghost use Rattle.std.specs.Prelude.{◌≡◌, ◌≤◌, ◌<◌, cond, [], length, get_or, true};
 ghost use Rattle.lists.specs.Part.{only_if};
 ghost use Rattle.caller.specs.Short.{short};
-ghost use Rattle.refusals.specs.Refusal.{refusal};
-ghost use Rattle.duplex_metrics.specs.Metrics.{strand_figures, record_depth, record_figures, is_no_call, record_no_calls, metrics_record, input, metrics_faults, metrics_of, strand_metrics};
+ghost use Rattle.refusals.specs.Refusal.{refused};
+ghost use Rattle.refusals.specs.Outcome.{answer};
+ghost use Rattle.duplex_metrics.specs.Metrics.{strand_figures, record_depth, is_no_call, metrics_record, input_of, lengths_in, second_lengths, depths_in, figures_in_counts, Even, EvenIfThere, counts_long, counts_ragged, metrics_faults, metrics_of, strand_metrics};
 ghost use Rattle.duplex_metrics.specs.Running.{so_far, added, Continues, running, figures_in};
 
 use caller::{clamp_per_base_to_fgbio_short, rate_refusal};
 use dna::NO_CALL_BASE;
-use lists::{at_u16, copy_u16};
-use numbers::{max_u16, min_u16};
+use lists::copy;
 use rates::error_rate;
-use refusals::{MAX_POSITIONS, RAGGED, TOO_LONG, refuse_if};
+use refusals::{MAX_POSITIONS, Refusal, refuse};
+
+// A strand as the metrics look at it: its depths and its errors.
+#[derive(Clone, Copy)]
+pub struct Counts<'a> {
+    pub depths: &'a [u16],
+    pub errors: &'a [u16],
+}
+
+// How long both are.
+#[derive(Clone, Copy, Debug, PartialEq, Eq)]
+pub struct CountsLengths {
+    pub depths: usize,
+    pub errors: usize,
+}
+
+impl Counts<'_> {
+    pub fn lengths(self) -> CountsLengths
+        ensures { result ≡ lengths_in self.entry }
+    {
+        CountsLengths {
+            depths: self.depths.len(),
+            errors: self.errors.len(),
+        }
+    }
+}
 
 // Of a strand or a record: the largest and the smallest depth, the summed depths and the summed errors; each 0 over no positions.
-#[derive(Clone, Copy)]
+#[derive(Clone, Copy, Debug, PartialEq, Eq)]
 pub struct Figures {
     pub largest: u32,
     pub smallest: u32,
     pub depths: u32,
     pub errors: u32,
-}
-
-#[derive(Clone, Copy)]
-pub enum StrandMetrics {
-    Refused(u8),
-    Of(Figures),
 }
 
 // A record's tags by their names: D the largest depth, M the smallest, E the error rate, of the first strand (a), the second (b)
@@ -47,26 +66,17 @@ pub struct MetricsRecord {
     pub nc: u32,
 }
 
-#[derive(Clone, Copy)]
-pub enum Metrics {
-    Refused(u8),
-    Of(MetricsRecord),
-}
-
-// How long each array is that a call is given, and whether there is a second strand.
-#[derive(Clone, Copy)]
+// How long each array is that a call is given. The second strand may be absent.
+#[derive(Clone, Copy, Debug, PartialEq, Eq)]
 pub struct MetricsLengths {
-    pub a: usize,
-    pub aErrors: usize,
-    pub second: bool,
-    pub b: usize,
-    pub bErrors: usize,
+    pub a: CountsLengths,
+    pub b: Option<CountsLengths>,
     pub bases: usize,
     pub errors: usize,
 }
 
 // The figures of the positions so far, and how many of them are no-calls: handed on by value, one position at a time.
-#[derive(Clone, Copy)]
+#[derive(Clone, Copy, Debug, PartialEq, Eq)]
 pub struct Running {
     pub largest: u16,
     pub smallest: u16,
@@ -79,11 +89,7 @@ pub struct Running {
 fn no_call(base: u8, depth: u16) -> u32
     ensures { result ≡ cond (is_no_call base depth) 1 0 }
 {
-    if (base == NO_CALL_BASE) & (0 < depth) {
-        1
-    } else {
-        0
-    }
+    u32::from((base == NO_CALL_BASE) & (0 < depth))
 }
 
 impl Running {
@@ -105,10 +111,10 @@ impl Running {
         requires { (self.depths ≤ 4294901760) × (self.errors ≤ 4294901760) × (self.nc ≤ 4294901760) }
         ensures { (result ≡ added self depth error base) × Continues self depth error base result }
     {
-        self.largest = max_u16(self.largest, depth);
-        self.smallest = min_u16(self.smallest, depth);
-        self.depths += depth as u32;
-        self.errors += error as u32;
+        self.largest = self.largest.max(depth);
+        self.smallest = self.smallest.min(depth);
+        self.depths += u32::from(depth);
+        self.errors += u32::from(error);
         self.nc += no_call(base, depth);
         self
     }
@@ -119,13 +125,6 @@ fn capped_u16(n: u16) -> u16
     ensures { result ≡ short n }
 {
     clamp_per_base_to_fgbio_short(n) as u16
-}
-
-// The depth of the first position, 0 where there is none.
-fn first_depth(a: &[u16], b: &[u16]) -> u16
-    ensures { result ≡ record_depth a.now b.now 0 }
-{
-    capped_u16(at_u16(a, 0, 0)) + capped_u16(at_u16(b, 0, 0))
 }
 
 // The depth at a position: of both strands, or of one alone.
@@ -140,6 +139,17 @@ fn depth_at(a: &[u16], second: bool, b: &[u16], i: usize) -> u16
     }
 }
 
+// The depth of the first position, 0 where there is none.
+fn first_depth(a: &[u16], second: bool, b: &[u16]) -> u16
+    requires { second ≡ true → length b.now ≡ length a.now }
+    ensures { result ≡ record_depth a.now (only_if second b.now) 0 }
+{
+    if a.is_empty() {
+        return 0;
+    }
+    depth_at(a, second, b, 0)
+}
+
 // The base at a position, 0 where bases are not asked for.
 fn base_at(asked: bool, bases: &[u8], i: usize) -> u8
     requires { asked ≡ true → i < length bases.now }
@@ -149,7 +159,8 @@ fn base_at(asked: bool, bases: &[u8], i: usize) -> u8
 }
 
 // All positions in one pass, of one strand or of two, with bases or without: the one loop of all figures. Both questions are the same at
-// every position, so that the compiler makes a loop without tests of each choice.
+// every position, so that the compiler makes a loop without tests of each choice. It does so with a `bool` beside a slice, and not as
+// well with an `Option` of the slice.
 fn running_over(
     a: &[u16],
     second: bool,
@@ -161,16 +172,13 @@ fn running_over(
     requires { (length a.now ≡ length errors.now) × (second ≡ true → length b.now ≡ length errors.now) × (asked ≡ true → length bases.now ≡ length errors.now) × (length errors.now ≤ 1024) }
     ensures { result ≡ running a.now (only_if second b.now) errors.now (only_if asked bases.now) }
 {
-    let b_count = counted(second, b.len());
-    let mut r = Running::start(first_depth(a, &b[0..b_count]));
-    let mut i = 0;
-    while i < errors.len() {
+    let mut r = Running::start(first_depth(a, second, b));
+    for i in 0..errors.len() {
         r = r.add(
             depth_at(a, second, b, i),
             capped_u16(errors[i]),
             base_at(asked, bases, i),
         );
-        i += 1;
     }
     r
 }
@@ -179,20 +187,35 @@ fn figures_in(r: Running) -> Figures
     ensures { result ≡ figures_in r }
 {
     Figures {
-        largest: r.largest as u32,
-        smallest: r.smallest as u32,
+        largest: u32::from(r.largest),
+        smallest: u32::from(r.smallest),
         depths: r.depths,
         errors: r.errors,
     }
 }
 
 // A strand's own figures: there is no second strand, and no bases are asked for.
-fn strand_figures(depths: &[u16], errors: &[u16]) -> Figures
-    requires { (length depths.now ≡ length errors.now) × (length errors.now ≤ 1024) }
-    ensures { result ≡ strand_figures depths.now errors.now }
+fn strand_figures(s: Counts) -> Figures
+    requires { Even s }
+    ensures { result ≡ strand_figures s.entry.depths.now s.entry.errors.now }
 {
-    let none = [0; 1];
-    figures_in(running_over(depths, false, depths, errors, false, &none))
+    figures_in(running_over(s.depths, false, &[], s.errors, false, &[]))
+}
+
+// Those of a strand that may be absent.
+fn second_figures(s: Option<Counts>) -> Figures
+    requires { EvenIfThere s }
+    ensures { result ≡ figures_in_counts s.entry }
+{
+    match s {
+        Some(s) => strand_figures(s),
+        None => Figures {
+            largest: 0,
+            smallest: 0,
+            depths: 0,
+            errors: 0,
+        },
+    }
 }
 
 // Where a strand is shorter than the record: over copies of both with zeros behind them.
@@ -200,10 +223,11 @@ fn padded_running(a: &[u16], b: &[u16], errors: &[u16], bases: &[u8]) -> Running
     requires { (length bases.now ≡ length errors.now) × (length errors.now ≤ 1024) }
     ensures { result ≡ running a.now b.now errors.now bases.now }
 {
+    // No heap: arrays of the most that is looked at.
     let mut a_depths = [0; 1024];
     let mut b_depths = [0; 1024];
-    copy_u16(a, &mut a_depths);
-    copy_u16(b, &mut b_depths);
+    copy(a, &mut a_depths);
+    copy(b, &mut b_depths);
     let n = errors.len();
     running_over(&a_depths[0..n], true, &b_depths[0..n], errors, true, bases)
 }
@@ -218,7 +242,7 @@ fn record_running(a: &[u16], b: &[u16], errors: &[u16], bases: &[u8]) -> Running
         if n <= b.len() {
             return running_over(&a[0..n], true, &b[0..n], errors, true, bases);
         }
-        if b.len() == 0 {
+        if b.is_empty() {
             return running_over(&a[0..n], false, b, errors, true, bases);
         }
     }
@@ -226,14 +250,11 @@ fn record_running(a: &[u16], b: &[u16], errors: &[u16], bases: &[u8]) -> Running
 }
 
 // The metrics of one strand. Refuses by 7, 8.
-pub fn strand_metrics(depths: &[u16], errors: &[u16]) -> StrandMetrics
-    ensures { result ≡ strand_metrics depths.now errors.now }
+pub fn strand_metrics(s: Counts) -> Result<Figures, Refusal>
+    ensures { result ≡ strand_metrics s.entry.depths.now s.entry.errors.now }
 {
-    let number = rate_refusal(depths.len(), errors.len());
-    if number != 0 {
-        return StrandMetrics::Refused(number);
-    }
-    StrandMetrics::Of(strand_figures(depths, errors))
+    rate_refusal(s.depths.len(), s.errors.len())?;
+    Ok(strand_figures(s))
 }
 
 fn metrics_record(a: Figures, b: Figures, c: Figures, nc: u32) -> MetricsRecord
@@ -253,82 +274,71 @@ fn metrics_record(a: Figures, b: Figures, c: Figures, nc: u32) -> MetricsRecord
     }
 }
 
-// The metrics of a record whose arrays no row refuses. The second strand may be empty.
-fn metrics_over(
-    a_depths: &[u16],
-    a_errors: &[u16],
-    b_depths: &[u16],
-    b_errors: &[u16],
-    bases: &[u8],
-    errors: &[u16],
-) -> MetricsRecord
-    requires a_depths_len { (length a_depths.now ≡ length a_errors.now) × (length a_errors.now ≤ 1024) }
-    requires b_depths_len { (length b_depths.now ≡ length b_errors.now) × (length b_errors.now ≤ 1024) }
-    requires bases_len { (length bases.now ≡ length errors.now) × (length errors.now ≤ 1024) }
-    ensures { result ≡ metrics_record
-        (strand_figures a_depths.now a_errors.now)
-        (strand_figures b_depths.now b_errors.now)
-        (record_figures a_depths.now b_depths.now errors.now)
-        (record_no_calls a_depths.now b_depths.now bases.now) }
+// Row 7's condition for a strand's arrays.
+fn is_long(n: CountsLengths) -> bool
+    ensures { result ≡ counts_long n }
 {
-    let a = strand_figures(a_depths, a_errors);
-    let b = strand_figures(b_depths, b_errors);
-    let c = record_running(a_depths, b_depths, errors, bases);
-    metrics_record(a, b, figures_in(c), c.nc)
+    (MAX_POSITIONS < n.depths) | (MAX_POSITIONS < n.errors)
 }
 
-// The number that refuses arrays of these lengths, 0 for none.
-pub fn metrics_refusal(n: MetricsLengths) -> u8
-    ensures { result ≡ refusal (metrics_faults n) }
+// Row 8's.
+fn is_ragged(n: CountsLengths) -> bool
+    ensures { result ≡ counts_ragged n }
 {
-    let long = (MAX_POSITIONS < n.a)
-        | ((MAX_POSITIONS < n.aErrors) | ((MAX_POSITIONS < n.bases) | (MAX_POSITIONS < n.errors)));
-    let long_second = (MAX_POSITIONS < n.b) | (MAX_POSITIONS < n.bErrors);
-    let number = refuse_if(0, long | (n.second & long_second), TOO_LONG);
-    let differ = (n.aErrors != n.a) | (n.errors != n.bases);
-    refuse_if(number, differ | (n.second & (n.bErrors != n.b)), RAGGED)
+    n.errors != n.depths
 }
 
-// How many of so many elements of the second strand are looked at.
-pub fn counted(second: bool, n: usize) -> usize
-    ensures { (result ≡ cond second n 0) × (result ≤ n) }
+// The refusal of arrays of these lengths, if any.
+pub fn metrics_refusal(n: MetricsLengths) -> Result<(), Refusal>
+    ensures { result ≡ answer (refused (metrics_faults n)) tt }
 {
-    if second { n } else { 0 }
+    let long_record = (MAX_POSITIONS < n.bases) | (MAX_POSITIONS < n.errors);
+    let long_second = n.b.is_some_and(|b| is_long(b));
+    refuse((is_long(n.a) | long_record) | long_second, Refusal::TooLong)?;
+    let ragged_record = n.errors != n.bases;
+    let ragged_second = n.b.is_some_and(|b| is_ragged(b));
+    refuse(
+        (is_ragged(n.a) | ragged_record) | ragged_second,
+        Refusal::Ragged,
+    )
 }
 
-// The metrics of a record: the first strand's depths and errors, the second strand's where there is one, and the record's bases
-// and errors. A strand may be longer or shorter than the record. Refuses by 7, 8.
+// How long the arrays of a strand are that may be absent.
+fn lengths_of(s: Option<Counts>) -> Option<CountsLengths>
+    ensures { result ≡ second_lengths s.entry }
+{
+    match s {
+        Some(s) => Some(s.lengths()),
+        None => None,
+    }
+}
+
+// The depths of a strand that may be absent.
+fn depths_of<'a>(s: Option<Counts<'a>>) -> &'a [u16]
+    ensures { result.now ≡ depths_in s.entry }
+{
+    match s {
+        Some(s) => s.depths,
+        None => &[],
+    }
+}
+
+// The metrics of a record: the strands' depths and errors, the second strand's where there is one, and the record's bases and
+// errors. A strand may be longer or shorter than the record. Refuses by 7, 8.
 pub fn duplex_metrics(
-    a_depths: &[u16],
-    a_errors: &[u16],
-    second: bool,
-    b_depths: &[u16],
-    b_errors: &[u16],
+    a: Counts,
+    b: Option<Counts>,
     bases: &[u8],
     errors: &[u16],
-) -> Metrics
-    ensures { result ≡ metrics_of (input a_depths.now a_errors.now second b_depths.now b_errors.now bases.now errors.now) }
+) -> Result<MetricsRecord, Refusal>
+    ensures { result ≡ metrics_of (input_of a.entry b.entry bases.now errors.now) }
 {
-    let number = metrics_refusal(MetricsLengths {
-        a: a_depths.len(),
-        aErrors: a_errors.len(),
-        second,
-        b: b_depths.len(),
-        bErrors: b_errors.len(),
+    metrics_refusal(MetricsLengths {
+        a: a.lengths(),
+        b: lengths_of(b),
         bases: bases.len(),
         errors: errors.len(),
-    });
-    if number != 0 {
-        return Metrics::Refused(number);
-    }
-    let b_count = counted(second, b_depths.len());
-    let b_error_count = counted(second, b_errors.len());
-    Metrics::Of(metrics_over(
-        a_depths,
-        a_errors,
-        &b_depths[0..b_count],
-        &b_errors[0..b_error_count],
-        bases,
-        errors,
-    ))
+    })?;
+    let c = record_running(a.depths, depths_of(b), errors, bases);
+    Ok(metrics_record(strand_figures(a), second_figures(b), figures_in(c), c.nc))
 }

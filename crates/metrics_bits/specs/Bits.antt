@@ -1,15 +1,12 @@
 -- The metrics of a record with its rates as their bits.
-use Rattle.std.specs.Prelude.{not, T}
+use Rattle.std.specs.Prelude.{not, T, Result, Ok, Err}
 use Rattle.std.specs.Float.{binary32}
 use Rattle.std.specs.Float.Ieee.{to_bits, is_nan}
-use Rattle.duplex_metrics.specs.declared.Metrics.{Metrics}
-use Rattle.duplex_metrics.specs.declared.Metrics.TheVariants.{Refused, Of}
+use Rattle.refusals.specs.declared.Refusal.{Refusal}
 use Rattle.duplex_metrics.specs.declared.MetricsRecord.{MetricsRecord}
 use Rattle.metrics_bits.specs.declared.MetricsBits.{MetricsBits}
-use Rattle.metrics_bits.specs.declared.MetricsWords.{MetricsWords}
-use Rattle.metrics_bits.specs.declared.MetricsWords.TheVariants.{Refused as Refused-words, Of as Of-bits}
 
-unfoldable pub in_bits : MetricsRecord → MetricsBits
+abbrev pub in_bits : MetricsRecord → MetricsBits
 in_bits r = record {
   aD = r.aD;
   aM = r.aM;
@@ -23,10 +20,10 @@ in_bits r = record {
   nc = r.nc;
 }
 
--- The library's answer: the record so, and a refusal with its number.
-abbrev pub metrics_words : Metrics → MetricsWords
-metrics_words (Refused n) = Refused-words n
-metrics_words (Of r) = Of-bits (in_bits r)
+-- The library's answer: the record so, and a refusal as it is.
+abbrev pub metrics_words : Result MetricsRecord Refusal → Result MetricsBits Refusal
+metrics_words (Ok r) = Ok (in_bits r)
+metrics_words (Err refusal) = Err refusal
 
 -- A record whose rates are no NaN, so that their bits may be asked for.
 pub record Numbers (r : MetricsRecord) : Type 0 where

@@ -4,8 +4,7 @@ use Rattle.rust_metrics.specs.ReadBack.{ReadBack}
 
 pub read_back : ReadBack
 read_back = record {
-  depths = record { refusals = λ n. refl; passes = λ x. refl; answers = λ x. refl };
-  range = record { refusals = λ n. refl; passes = λ x. refl; answers = λ x. refl };
-  figures = record { refusals = λ n. refl; passes = λ x. refl; answers = λ x. refl };
-  metrics = record { refusals = λ n. refl; passes = λ x. refl; answers = λ x. refl };
+  range = record { refusals = λ row. refl; passes = λ x. refl; answers = λ x. refl };
+  figures = record { refusals = λ row. refl; passes = λ x. refl; answers = λ x. refl };
+  metrics = record { refusals = λ row. refl; passes = λ x. refl; answers = λ x. refl };
 }

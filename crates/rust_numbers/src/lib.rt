@@ -3,31 +3,31 @@
 #![tactic(auto)]
 
 ghost use Rattle.std.specs.Prelude.{◌≡◌, cond, length};
-ghost use Rattle.lists.specs.Output.{answer, after};
+ghost use Rattle.refusals.specs.Outcome.{answer, after};
 ghost use Rattle.phred.specs.Phred.{capped_quality};
 ghost use Rattle.rates.specs.Rate.{bits_of};
 ghost use Rattle.caller.specs.Short.{short, short_of};
 ghost use Rattle.caller.specs.Name.{read_name, name_refused};
 ghost use Rattle.caller.specs.Rate.{error_rate};
-ghost use Rattle.caller.specs.declared.ReadName.TheVariants.{Refused, Written};
 ghost use Rattle.methylation.specs.Methylation.{is_enabled, pattern_of_flags, pattern_bases, is_cpg_context};
-ghost use Rattle.replies.specs.Choices.{yes, pattern_of, wrong_pattern, mode_of, wrong_mode};
-ghost use Rattle.replies.specs.Replies.{no_number, numbered};
+ghost use Rattle.methylation.specs.Choices.{pattern_in, mode_in, pattern_of, wrong_pattern, mode_of, wrong_mode};
+ghost use Rattle.replies.specs.Choices.{yes};
+ghost use Rattle.replies.specs.Replies.{count_reply, number_reply, no_number, numbered};
 ghost use Rattle.duplex_reads.specs.Reads.{is_paired, is_paired_r1, is_paired_r2};
 ghost use Rattle.duplex_molecule.specs.Molecule.{is_error, molecule_call};
-ghost use Rattle.rust_numbers.specs.Replies.{bit, pattern_number, rate_reply, name_reply, no_bases, bases_reply, call_reply};
+ghost use Rattle.rust_numbers.specs.Replies.{bit, pattern_number, rate_reply, no_bases, bases_reply, letters_reply, call_reply};
 
 use caller::{
-    ErrorRate, ReadName, calculate_error_rate, clamp_combined_error_to_fgbio_short,
-    clamp_per_base_to_fgbio_short, write_consensus_read_name,
+    calculate_error_rate, clamp_combined_error_to_fgbio_short, clamp_per_base_to_fgbio_short,
+    write_consensus_read_name,
 };
 use duplex_molecule::{MoleculeCall, is_error, molecule_call};
 use duplex_reads::{is_paired, is_paired_r1, is_paired_r2};
-use methylation::{ConversionPattern, is_cpg_context};
+use methylation::{ConversionPattern, MethylationMode, PatternBases, is_cpg_context};
 use phred::cap_quality;
 use rates::rate_bits;
-use refusals::BROKEN;
-use replies::{Count, Number, mode_of, pattern_of, wrong_mode, wrong_pattern};
+use refusals::Refusal;
+use replies::{Count, Number};
 
 // `refused` is the refusal's number; where it is 0, a pattern's letters.
 #[repr(C)]
@@ -39,6 +39,27 @@ pub struct Bases {
     pub converted: u8,
 }
 
+impl From<Result<PatternBases, Refusal>> for Bases {
+    ghost from_gives = { λ letters reply. reply ≡ letters_reply letters };
+
+    fn from(letters: Result<PatternBases, Refusal>) -> Bases {
+        match letters {
+            Ok(letters) => Bases {
+                refused: 0,
+                reference: letters.reference,
+                unconverted: letters.unconverted,
+                converted: letters.converted,
+            },
+            Err(refusal) => Bases {
+                refused: refusal.number(),
+                reference: 0,
+                unconverted: 0,
+                converted: 0,
+            },
+        }
+    }
+}
+
 // The methylation call at a position; where pattern is 0 there is none.
 #[repr(C)]
 #[derive(Clone, Copy)]
@@ -48,14 +69,8 @@ pub struct Call {
     pub confirmed: u8,
 }
 
-// 0: no; 1: yes.
-fn bit_of(met: bool) -> u8
-    ensures { result ≡ bit met }
-{
-    if met { 1 } else { 0 }
-}
-
 // 1: C to T; 2: G to A.
+// The numbers are those that C sees.
 fn pattern_number(pattern: ConversionPattern) -> u8
     ensures { result ≡ pattern_number pattern }
 {
@@ -94,35 +109,19 @@ pub extern "C" fn gedrashiw_rate_bits(errors: u32, depth: u32) -> u32
 }
 
 // The rate's bits.
+// A strand's rate by its bits.
+fn error_rate_bits(depths: &[u16], errors: &[u16]) -> Result<u32, Refusal>
+    ensures { number_reply result ≡ rate_reply (error_rate depths.now errors.now) }
+{
+    let rate = calculate_error_rate(depths, errors)?;
+    Ok(f32::to_bits(rate))
+}
+
 #[unsafe(no_mangle)]
 pub extern "C" fn gedrashiw_calculate_error_rate(depths: &[u16], errors: &[u16]) -> Number
     ensures { result ≡ rate_reply (error_rate depths.now errors.now) }
 {
-    match calculate_error_rate(depths, errors) {
-        ErrorRate::Refused(number) => Number {
-            refused: number,
-            number: 0,
-        },
-        ErrorRate::Rate(rate) => Number {
-            refused: 0,
-            number: f32::to_bits(rate),
-        },
-    }
-}
-
-fn name_reply(answer: ReadName) -> Count
-    ensures { result ≡ name_reply answer }
-{
-    match answer {
-        ReadName::Refused(number) => Count {
-            refused: number,
-            count: 0,
-        },
-        ReadName::Written(n) => Count {
-            refused: 0,
-            count: n,
-        },
-    }
+    Number::from(error_rate_bits(depths, errors))
 }
 
 #[unsafe(no_mangle)]
@@ -131,10 +130,10 @@ pub extern "C" fn gedrashiw_write_consensus_read_name(
     read_name_prefix: &[u8],
     umi: &[u8],
 ) -> Count
-    ensures value { result ≡ name_reply (answer Refused (name_refused read_name_prefix.now umi.now out.old) (Written (length (read_name read_name_prefix.now umi.now)))) }
+    ensures value { result ≡ count_reply (answer (name_refused read_name_prefix.now umi.now out.old) (length (read_name read_name_prefix.now umi.now))) }
     ensures out_after { out.new ≡ after (name_refused read_name_prefix.now umi.now out.old) (read_name read_name_prefix.now umi.now) out.old }
 {
-    name_reply(write_consensus_read_name(out, read_name_prefix, umi))
+    Count::from(write_consensus_read_name(out, read_name_prefix, umi))
 }
 
 // 1 for EM-Seq and TAPs, 0 for Disabled. Refuses by 13.
@@ -142,20 +141,9 @@ pub extern "C" fn gedrashiw_write_consensus_read_name(
 pub extern "C" fn gedrashiw_is_enabled(mode: u8) -> Number
     ensures { result ≡ cond (wrong_mode mode) (no_number 13) (numbered (bit (is_enabled (mode_of mode)))) }
 {
-    if wrong_mode(mode) {
-        return Number {
-            refused: BROKEN,
-            number: 0,
-        };
-    }
-    let told = mode_of(mode);
-    Number {
-        refused: 0,
-        number: bit_of(told.is_enabled()) as u32,
-    }
+    Number::from(MethylationMode::try_from(mode).map(|mode| mode.is_enabled()))
 }
 
-// The pattern: 1 is C to T, 2 G to A.
 #[unsafe(no_mangle)]
 pub extern "C" fn gedrashiw_from_read_flags(read_flags: u16) -> u8
     ensures { result ≡ pattern_number (pattern_of_flags read_flags) }
@@ -168,78 +156,60 @@ pub extern "C" fn gedrashiw_from_read_flags(read_flags: u16) -> u8
 pub extern "C" fn gedrashiw_bases(pattern: u8) -> Bases
     ensures { result ≡ cond (wrong_pattern pattern) (no_bases 13) (bases_reply (pattern_bases (pattern_of pattern))) }
 {
-    if wrong_pattern(pattern) {
-        return Bases {
-            refused: BROKEN,
-            reference: 0,
-            unconverted: 0,
-            converted: 0,
-        };
-    }
-    let told = pattern_of(pattern);
-    let letters = told.bases();
-    Bases {
-        refused: 0,
-        reference: letters.reference,
-        unconverted: letters.unconverted,
-        converted: letters.converted,
-    }
+    Bases::from(ConversionPattern::try_from(pattern).map(|pattern| pattern.bases()))
 }
 
-// Any number but 0 is the top strand.
 #[unsafe(no_mangle)]
 pub extern "C" fn gedrashiw_is_cpg_context(ref_seq: &[u8], pos: usize, is_top_strand: u8) -> u8
     ensures { result ≡ bit (is_cpg_context ref_seq.now pos (yes is_top_strand)) }
 {
-    bit_of(is_cpg_context(ref_seq, pos, is_top_strand != 0))
+    u8::from(is_cpg_context(ref_seq, pos, is_top_strand != 0))
 }
 
 #[unsafe(no_mangle)]
 pub extern "C" fn gedrashiw_is_paired(flags: u16) -> u8
     ensures { result ≡ bit (is_paired flags) }
 {
-    bit_of(is_paired(flags))
+    u8::from(is_paired(flags))
 }
 
 #[unsafe(no_mangle)]
 pub extern "C" fn gedrashiw_is_paired_r1(flags: u16) -> u8
     ensures { result ≡ bit (is_paired_r1 flags) }
 {
-    bit_of(is_paired_r1(flags))
+    u8::from(is_paired_r1(flags))
 }
 
 #[unsafe(no_mangle)]
 pub extern "C" fn gedrashiw_is_paired_r2(flags: u16) -> u8
     ensures { result ≡ bit (is_paired_r2 flags) }
 {
-    bit_of(is_paired_r2(flags))
+    u8::from(is_paired_r2(flags))
 }
 
 #[unsafe(no_mangle)]
 pub extern "C" fn gedrashiw_is_error(source_base: u8, consensus_base: u8) -> u8
     ensures { result ≡ bit (is_error source_base consensus_base) }
 {
-    bit_of(is_error(source_base, consensus_base))
+    u8::from(is_error(source_base, consensus_base))
 }
 
-fn call_reply(answer: MoleculeCall) -> Call
-    ensures { result ≡ call_reply answer }
-{
-    match answer {
-        MoleculeCall::NoCall => Call {
-            pattern: 0,
-            call: 0,
-            confirmed: 0,
-        },
-        MoleculeCall::Call {
-            pattern,
-            call,
-            confirmed,
-        } => Call {
-            pattern: pattern_number(pattern),
-            call,
-            confirmed,
-        },
+impl From<Option<MoleculeCall>> for Call {
+    ghost from_gives = { λ call reply. reply ≡ call_reply call };
+
+    fn from(call: Option<MoleculeCall>) -> Call {
+        match call {
+            Some(call) => Call {
+                pattern: pattern_number(call.pattern),
+                call: call.call,
+                confirmed: call.confirmed,
+            },
+            None => Call {
+                pattern: 0,
+                call: 0,
+                confirmed: 0,
+            },
+        }
     }
 }
 
@@ -247,5 +217,5 @@ fn call_reply(answer: MoleculeCall) -> Call
 pub extern "C" fn gedrashiw_molecule_call(ct_base: u8, ga_base: u8) -> Call
     ensures { result ≡ call_reply (molecule_call ct_base ga_base) }
 {
-    call_reply(molecule_call(ct_base, ga_base))
+    Call::from(molecule_call(ct_base, ga_base))
 }

@@ -13,5 +13,5 @@ pub returns : goal.returns
 unfolding record_words
 returns c =
     let out = c.args.out.now in
-    c.write_u32s.ensures
+    c.write.ensures
     ∙ ap (λ (words : List ℕ). put (bytes32 words) out) (all_fit 4 (record_words c.args.r) out (omega arith) c.requires)

@@ -15,7 +15,6 @@ pub bounds-b-i : goal.bounds-b-i
 bounds-b-i c = c.requires.1 c.if-second.true
 
 pub overflow_add-result : goal.overflow_add-result
-unfolding short
 overflow_add-result c = record { fits = omega (arith, c.capped_u16-then-second.ensures, c.capped_u16.ensures) }
 
 pub returns-then-second : goal.returns-then-second
@@ -24,7 +23,7 @@ returns-then-second c = rw (c.if-second.true, c.capped_u16-then-second.ensures, 
 
 -- One strand alone.
 alone : (a b : List ℕ) (second : Bool) (i : ℕ) → second ≡ false → short (get_or a i 0) ≡ record_depth a (only_if second b) i
-unfolding record_depth only_if short
+unfolding record_depth only_if
 alone a b second i e = rw e (sym (add-zero (short (get_or a i 0))))
 
 pub returns-else-second : goal.returns-else-second

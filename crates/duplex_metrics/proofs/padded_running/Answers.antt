@@ -11,4 +11,4 @@ unfolding only_if
 returns c =
     let a = c.args in
     let n = length a.errors.now in
-    c.running_over.ensures ∙ alike a.a.now a.b.now _ _ a.errors.now a.bases.now (omega arith) (padded_cut n a.a.now (omega arith) c.copy_u16.ensures) (padded_cut n a.b.now (omega arith) c.copy_u16-2.ensures)
+    c.running_over.ensures ∙ alike a.a.now a.b.now _ _ a.errors.now a.bases.now (omega arith) (padded_cut n a.a.now (omega arith) c.copy.ensures) (padded_cut n a.b.now (omega arith) c.copy-2.ensures)

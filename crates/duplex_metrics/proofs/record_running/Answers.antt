@@ -14,11 +14,11 @@ returns-then-n-b c =
     let n = length a.errors.now in
     c.running_over.ensures ∙ alike a.a.now a.b.now _ _ a.errors.now a.bases.now (omega arith) (cut_at n a.a.now) (cut_at n a.b.now)
 
-pub returns-then-b-eq0 : goal.returns-then-b-eq0
+pub returns-then-is_empty : goal.returns-then-is_empty
 unfolding only_if
-returns-then-b-eq0 c =
+returns-then-is_empty c =
     let a = c.args in
     let n = length a.errors.now in
-    let none : length a.b.now ≡ 0 = omega arith in
-    c.running_over-then-b-eq0.ensures
+    let none : length a.b.now ≡ 0 = grind arith in
+    c.running_over-then-is_empty.ensures
     ∙ alike a.a.now a.b.now _ [] a.errors.now a.bases.now (omega arith) (cut_at n a.a.now) (λ i h. sym (empty_at a.b.now i none))

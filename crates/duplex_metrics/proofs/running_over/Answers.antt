@@ -11,16 +11,12 @@ use Rattle.lists.proofs.Table.{length_tabulate, get_d_tabulate}
 use Rattle.duplex_metrics.specs.Metrics.{capped, record_depth, record_depths, is_no_call}
 use Rattle.duplex_metrics.specs.Running.{so_far, running}
 use Rattle.duplex_metrics.proofs.Depths.{depths_length, depths_at, depth_bound, short_bound, capped_length, capped_at}
-use Rattle.duplex_metrics.proofs.Few.{looked_at}
 use Rattle.duplex_metrics.proofs.SoFar.{mark, begin, next, done, depths_first, only_within, no_calls_within}
 use Rattle.duplex_metrics.proofs.running_over.Goals as goal
 
 pub loop-i-init : goal.loop-i-init
 loop-i-init c =
-    let given = c.args in
-    let b = looked_at given.second given.b.now c.counted-b_count.ensures.0 in
-    let first = c.first_depth.ensures ∙ ap (λ (l : List ℕ). record_depth given.a.now l 0) b in
-    begin (c.start-r.ensures ∙ ap (λ (n : ℕ). so_far n [] [] []) first)
+    begin (c.start-r.ensures ∙ ap (λ (n : ℕ). so_far n [] [] []) c.first_depth.ensures)
 
 pub depth_at-requires : goal.depth_at-requires
 depth_at-requires c =

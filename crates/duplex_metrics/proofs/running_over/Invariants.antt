@@ -1,5 +1,4 @@
 -- What the loop keeps.
-use Prim.Native.Nat.{◌-◌}
 use lib.ListN.{length}
 use Rattle.lists.specs.Part.{only_if}
 use Rattle.lists.specs.Table.{tabulate}
@@ -11,6 +10,3 @@ abbrev pub invariant-loop-i : goal.invariant-loop-i
 invariant-loop-i l =
     let b' = only_if l.second l.b in
     Reached (record_depth l.a b' 0) (record_depths (length l.errors) l.a b') (capped l.errors) (tabulate (length l.errors) (mark l.a b' (only_if l.asked l.bases))) l.i l.r
-
-abbrev pub decreases-loop-i : goal.decreases-loop-i
-decreases-loop-i l = length l.errors - l.i

@@ -18,9 +18,8 @@ running_over-requires c =
 pub returns : goal.returns
 unfolding strand_figures only_if
 returns c =
-    let a = c.args in
-    let ds = a.depths.now in
-    let es = a.errors.now in
+    let ds = c.args.s.depths.now in
+    let es = c.args.s.errors.now in
     let same : length es ≡ length ds = omega arith in
     let depths = ap (λ (m : ℕ). record_depths m ds []) same ∙ one_strand ds in
     c.figures_in.ensures ∙ ap figures_in c.running_over.ensures ∙ ap (λ (l : List ℕ). figures l (capped es)) depths

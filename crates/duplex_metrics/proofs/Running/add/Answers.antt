@@ -1,17 +1,10 @@
 -- `duplex_metrics::Running::add` meets its contract: each figure by its own rule, and so those of the positions so far. Assumes nothing.
 use mathlib.Core.Path.{◌≡◌, ◌∙◌}
 use Prim.Native.Nat.{ℕ}
-use native.Mathlib.Omega.{arith}
-use Rattle.duplex_metrics.specs.Metrics.{is_no_call}
 use Rattle.duplex_metrics.specs.Running.{added, Continues}
 use Rattle.duplex_metrics.specs.declared.Running.{Running}
-use Rattle.duplex_metrics.proofs.SoFar.{continues, at_most_one}
+use Rattle.duplex_metrics.proofs.SoFar.{continues}
 use Rattle.duplex_metrics.proofs.Running.add.Goals as goal
-
-pub overflow_add-self-3 : goal.overflow_add-self-3
-overflow_add-self-3 c =
-    let a = c.args in
-    record { fits = omega (arith, c.no_call.ensures, at_most_one (is_no_call a.base a.depth)) }
 
 told : (r : Running) (depth error base : ℕ) {s : Running} → s ≡ added r depth error base → (s ≡ added r depth error base) × Continues r depth error base s
 told r depth error base e = (e, λ first ds es ns h. e ∙ continues r depth error base first ds es ns h)
@@ -19,4 +12,4 @@ told r depth error base e = (e, λ first ds es ns h. e ∙ continues r depth err
 pub returns : goal.returns
 returns c =
     let a = c.args in
-    told a.self a.depth a.error a.base (rw (c.max_u16.ensures, c.min_u16.ensures, c.no_call.ensures))
+    told a.self a.depth a.error a.base (rw (c.max.ensures, c.min.ensures, c.from.ensures, c.from-2.ensures, c.no_call.ensures))
