@@ -1,2 +1,3 @@
 pub mod Reason
 pub mod Record
+pub mod Absent

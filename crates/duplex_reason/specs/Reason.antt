@@ -1,13 +1,12 @@
 -- Why a position of a two-strand record shows N, document 02's #101: seven reasons, each a condition on what the two strands show there.
-use Rattle.std.specs.Prelude.{ℕ, ◌+◌, ◌-◌, Bool, true, false, cond, not, ◌&&◌, ◌||◌, List, [], ◌∷◌, ◌++◌, eqb, leb}
+use Rattle.std.specs.Prelude.{None, Some, Option, ℕ, ◌+◌, ◌-◌, Bool, true, false, cond, not, ◌&&◌, ◌||◌, List, [], ◌∷◌, ◌++◌, eqb, leb}
 use Rattle.dna.specs.Dna.{letter_a, letter_c, letter_g, letter_n, letter_t, upper, same_letter}
 use Rattle.methylation.specs.Methylation.{pattern_bases}
-use Rattle.methylation.specs.declared.Annotation.{Annotation}
-use Rattle.methylation.specs.declared.Annotation.TheVariants.{Absent, Of}
 use Rattle.methylation.specs.declared.ConversionPattern.TheVariants.{CToT, GToA}
 use Rattle.duplex_reason.specs.declared.NoCallReason.{NoCallReason}
-use Rattle.duplex_reason.specs.declared.NoCallReason.TheVariants.{Refused, Outside, SingleStrand, Called, ANoCall, BNoCall, BothNoCall, EqualQualities, CloseQualities, LowSum, LowConfirming}
+use Rattle.duplex_reason.specs.declared.NoCallReason.TheVariants.{Outside, SingleStrand, Called, ANoCall, BNoCall, BothNoCall, EqualQualities, CloseQualities, LowSum, LowConfirming}
 use Rattle.duplex_reason.specs.declared.Shown.{Shown}
+use Rattle.methylation.specs.declared.ConversionPattern.{ConversionPattern}
 
 -- It shows N. Case counts: n is not N.
 abbrev pub is_n : Shown → Bool
@@ -19,13 +18,13 @@ shows letter base = eqb (upper base) letter
 
 -- A methylation call, by the annotations and bases of its informative strand and of the other, which confirms it. Both are annotated, with
 -- different patterns: at C to T the other shows C and the informative one C or T, at G to A the other shows G and it G or A.
-unfoldable pub called_by : Annotation → Annotation → ℕ → ℕ → Bool
-called_by Absent annotation base other = false
-called_by (Of pattern) Absent base other = false
-called_by (Of CToT) (Of CToT) base other = false
-called_by (Of CToT) (Of GToA) base other = shows letter_c other && (shows letter_c base || shows letter_t base)
-called_by (Of GToA) (Of CToT) base other = shows letter_g other && (shows letter_g base || shows letter_a base)
-called_by (Of GToA) (Of GToA) base other = false
+unfoldable pub called_by : Option ConversionPattern → Option ConversionPattern → ℕ → ℕ → Bool
+called_by None annotation base other = false
+called_by (Some pattern) None base other = false
+called_by (Some CToT) (Some CToT) base other = false
+called_by (Some CToT) (Some GToA) base other = shows letter_c other && (shows letter_c base || shows letter_t base)
+called_by (Some GToA) (Some CToT) base other = shows letter_g other && (shows letter_g base || shows letter_a base)
+called_by (Some GToA) (Some GToA) base other = false
 
 -- Strand s is the informative one of a call that the other confirms.
 abbrev pub carries : Shown → Shown → Bool
@@ -36,9 +35,9 @@ abbrev pub is_called : Shown → Shown → Bool
 is_called a b = carries a b || carries b a
 
 -- A strand of this annotation shows its converted base: T for C to T, A for G to A.
-abbrev pub converted_by : Annotation → ℕ → Bool
-converted_by Absent base = false
-converted_by (Of pattern) base = same_letter base (pattern_bases pattern).converted
+abbrev pub converted_by : Option ConversionPattern → ℕ → Bool
+converted_by None base = false
+converted_by (Some pattern) base = same_letter base (pattern_bases pattern).converted
 
 -- The other strand's quality counts alone: s carries a call, shows the converted base and is not marked informative.
 abbrev pub others_alone : Shown → Shown → Bool
@@ -65,7 +64,6 @@ holds EqualQualities a b = disagree a b && eqb a.qual b.qual
 holds CloseQualities a b = disagree a b && (eqb (difference a.qual b.qual) 1 || eqb (difference a.qual b.qual) 2)
 holds LowSum a b = sum_counts a b && leb (a.qual + b.qual) 2
 holds LowConfirming a b = (others_alone a b && leb b.qual 2) || (others_alone b a && leb a.qual 2)
-holds (Refused number) a b = false
 holds Outside a b = false
 holds SingleStrand a b = false
 holds Called a b = false
@@ -98,7 +96,6 @@ is_reason EqualQualities = true
 is_reason CloseQualities = true
 is_reason LowSum = true
 is_reason LowConfirming = true
-is_reason (Refused number) = false
 is_reason Outside = false
 is_reason SingleStrand = false
 is_reason Called = false

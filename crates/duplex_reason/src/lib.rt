@@ -1,24 +1,24 @@
 // Why a position of a record shows N, document 02's #101: one of seven reasons, or that the base is called, or that the position is not one
-// of two strands. Uses lists, dna, methylation, vanilla_caller, duplex_molecule and duplex_kind.
+// of two strands. Uses lists, refusals, dna, methylation, vanilla_caller, duplex_molecule
+// and duplex_kind.
 #![tactic(auto)]
 
 ghost use Rattle.std.specs.Prelude.{◌≡◌};
-ghost use Rattle.vanilla_caller.specs.Strand.{arrays};
-ghost use Rattle.duplex_kind.specs.Kind.{strand};
-ghost use Rattle.duplex_reason.specs.Reason.{carries, converted_by, others_alone, disagree, difference, sum_counts, holds, quality_reasons, first_of, reason_at};
-ghost use Rattle.duplex_reason.specs.Record.{shown_in, within, reason_in, reason_of};
+ghost use Rattle.duplex_kind.specs.Kind.{given_of};
+ghost use Rattle.duplex_reason.specs.Reason.{carries, converted_by, others_alone, disagree, sum_counts, holds, quality_reasons, first_of, reason_at};
+ghost use Rattle.duplex_reason.specs.Record.{shown_at, within, reason_in, reason_of};
 
 use dna::{NO_CALL_BASE, eq_ignore_ascii_case, to_ascii_uppercase};
-use duplex_kind::{DuplexConsensus, GivenStrand, record_kind};
+use duplex_kind::{DuplexConsensus, given_strand, record_kind};
 use duplex_molecule::{CtInput, ct_input};
-use lists::at_u8;
-use methylation::Annotation;
-use vanilla_caller::lengths_of;
+use lists::get_or;
+use methylation::ConversionPattern;
+use refusals::Refusal;
+use vanilla_caller::VanillaConsensusRead;
 
 // What is said of a position.
-#[derive(Clone, Copy)]
+#[derive(Clone, Copy, Debug, PartialEq, Eq)]
 pub enum NoCallReason {
-    Refused(u8),
     // Past the record, or there is none.
     Outside,
     // Within a record of one strand, which shows what that strand shows.
@@ -39,24 +39,22 @@ pub enum NoCallReason {
 }
 
 // What a strand shows at a position, and its annotation.
-#[derive(Clone, Copy)]
+#[derive(Clone, Copy, Debug, PartialEq, Eq)]
 pub struct Shown {
-    pub annotation: Annotation,
+    pub annotation: Option<ConversionPattern>,
     pub base: u8,
     pub qual: u8,
     pub mark: u8,
 }
 
 // Whether a strand is the informative one of a methylation call that the other confirms.
+#[tactic(auto, unfolding(duplex_molecule::specs::Molecule::ct_input, crate::specs::Reason::called_by))]
 fn carries_call(s: Shown, other: Shown) -> bool
     ensures { result ≡ carries s other }
 {
-    let own = s.annotation;
-    let others = other.annotation;
     let shown = to_ascii_uppercase(s.base);
     let confirming = to_ascii_uppercase(other.base);
-    let ct = ct_input(own, others);
-    match ct {
+    match ct_input(s.annotation, other.annotation) {
         CtInput::Neither => false,
         CtInput::IsA => (confirming == b'C') & ((shown == b'C') | (shown == b'T')),
         CtInput::IsB => (confirming == b'G') & ((shown == b'G') | (shown == b'A')),
@@ -64,15 +62,12 @@ fn carries_call(s: Shown, other: Shown) -> bool
 }
 
 // Whether a strand shows its annotation's converted base.
-fn shows_converted(annotation: Annotation, base: u8) -> bool
+fn shows_converted(annotation: Option<ConversionPattern>, base: u8) -> bool
     ensures { result ≡ converted_by annotation base }
 {
     match annotation {
-        Annotation::Absent => false,
-        Annotation::Of(pattern) => {
-            let bases = pattern.bases();
-            eq_ignore_ascii_case(base, bases.converted)
-        }
+        None => false,
+        Some(pattern) => eq_ignore_ascii_case(base, pattern.bases().converted),
     }
 }
 
@@ -80,8 +75,7 @@ fn shows_converted(annotation: Annotation, base: u8) -> bool
 fn others_alone(s: Shown, other: Shown) -> bool
     ensures { result ≡ others_alone s other }
 {
-    let annotation = s.annotation;
-    carries_call(s, other) & (shows_converted(annotation, s.base) & (s.mark == 0))
+    carries_call(s, other) & (shows_converted(s.annotation, s.base) & (s.mark == 0))
 }
 
 // Whether the bases differ without a methylation call.
@@ -91,22 +85,18 @@ fn is_disagreement(a: Shown, b: Shown) -> bool
     !(carries_call(a, b) | carries_call(b, a)) & (a.base != b.base)
 }
 
-fn difference_of(p: u8, q: u8) -> u8
-    ensures { result ≡ difference p q }
-{
-    if p < q { q - p } else { p - q }
-}
-
+#[tactic(auto, unfolding(crate::specs::Reason::holds))]
 fn is_equal_qualities(a: Shown, b: Shown) -> bool
     ensures { result ≡ holds NoCallReason.EqualQualities a b }
 {
     is_disagreement(a, b) & (a.qual == b.qual)
 }
 
+#[tactic(auto, unfolding(crate::specs::Reason::holds))]
 fn is_close_qualities(a: Shown, b: Shown) -> bool
     ensures { result ≡ holds NoCallReason.CloseQualities a b }
 {
-    let by = difference_of(a.qual, b.qual);
+    let by = a.qual.abs_diff(b.qual);
     is_disagreement(a, b) & ((by == 1) | (by == 2))
 }
 
@@ -118,12 +108,14 @@ fn does_sum_count(a: Shown, b: Shown) -> bool
     ((a.base == b.base) | called) & !alone
 }
 
+#[tactic(auto, unfolding(crate::specs::Reason::holds))]
 fn is_low_sum(a: Shown, b: Shown) -> bool
     ensures { result ≡ holds NoCallReason.LowSum a b }
 {
     does_sum_count(a, b) & (a.qual as u16 + b.qual as u16 <= 2)
 }
 
+#[tactic(auto, unfolding(crate::specs::Reason::holds))]
 fn is_low_confirming(a: Shown, b: Shown) -> bool
     ensures { result ≡ holds NoCallReason.LowConfirming a b }
 {
@@ -150,6 +142,7 @@ fn reason_by_quality(a: Shown, b: Shown) -> NoCallReason
 }
 
 // The reason at a position where two strands show this, the N reasons first, or that the base is called.
+#[tactic(auto, unfolding(crate::specs::Reason::holds, crate::specs::Reason::reason_at))]
 pub fn reason_at(a: Shown, b: Shown) -> NoCallReason
     ensures { result ≡ reason_at a b }
 {
@@ -165,108 +158,60 @@ pub fn reason_at(a: Shown, b: Shown) -> NoCallReason
     reason_by_quality(a, b)
 }
 
-// What a strand shows at a position; zeros past its end.
-pub fn shown_at(
-    annotation: Annotation,
-    bases: &[u8],
-    quals: &[u8],
-    marks: &[u8],
-    position: usize,
-) -> Shown
-    ensures { result ≡ shown_in annotation bases.now quals.now marks.now position }
+// What a strand that may be absent shows at a position; zeros past its end.
+pub fn shown_at(s: Option<VanillaConsensusRead>, position: usize) -> Shown
+    ensures { result ≡ shown_at (given_of s.entry) position }
 {
-    Shown {
-        annotation,
-        base: at_u8(bases, position, 0),
-        qual: at_u8(quals, position, 0),
-        mark: at_u8(marks, position, 0),
+    match s {
+        Some(s) => Shown {
+            annotation: s.annotation,
+            base: get_or(s.bases, position, 0),
+            qual: get_or(s.quals, position, 0),
+            mark: get_or(s.evidence.marks, position, 0),
+        },
+        None => Shown {
+            annotation: None,
+            base: 0,
+            qual: 0,
+            mark: 0,
+        },
     }
 }
 
-// What is said of a position of one strand alone: it is within its length or outside.
-fn single_reason(n: usize, position: usize) -> NoCallReason
-    ensures { result ≡ within n NoCallReason.SingleStrand position }
+// An answer for the positions of a record of n positions; the others are outside.
+fn within(n: usize, reason: NoCallReason, position: usize) -> NoCallReason
+    ensures { result ≡ within n reason position }
 {
     if position < n {
-        return NoCallReason::SingleStrand;
+        reason
+    } else {
+        NoCallReason::Outside
     }
-    NoCallReason::Outside
 }
 
-// What is said of a position of a record of this kind, whose strands show this there.
-pub fn reason_in(kind: DuplexConsensus, a: Shown, b: Shown, position: usize) -> NoCallReason
-    ensures { result ≡ reason_in kind a b position }
+// What is said of a position of a record of this kind, or where there is none, whose strands show this there.
+pub fn reason_in(made: Option<DuplexConsensus>, a: Shown, b: Shown, position: usize) -> NoCallReason
+    ensures { result ≡ reason_in made a b position }
 {
-    match kind {
-        DuplexConsensus::Refused(number) => NoCallReason::Refused(number),
-        DuplexConsensus::NoRecord => NoCallReason::Outside,
-        DuplexConsensus::Ab(n) => single_reason(n, position),
-        DuplexConsensus::Ba(n) => single_reason(n, position),
-        DuplexConsensus::Both(n) => {
-            if position < n {
-                return reason_at(a, b);
-            }
-            NoCallReason::Outside
-        }
+    match made {
+        None => NoCallReason::Outside,
+        Some(DuplexConsensus::Ab(n)) => within(n, NoCallReason::SingleStrand, position),
+        Some(DuplexConsensus::Ba(n)) => within(n, NoCallReason::SingleStrand, position),
+        Some(DuplexConsensus::Both(n)) => within(n, reason_at(a, b), position),
     }
 }
 
 // Why a position of the record that two strands make shows N, either of which may be absent. Source reads play no part: they change no
 // base. Refuses by 7, 8, as the combination does, whether or not there is a record.
 pub fn no_call_reason(
-    a_present: bool,
-    a_bases: &[u8],
-    a_quals: &[u8],
-    a_depths: &[u16],
-    a_errors: &[u16],
-    a_annotation: Annotation,
-    a_marks: &[u8],
-    a_unconverted: &[u32],
-    a_converted: &[u32],
-    b_present: bool,
-    b_bases: &[u8],
-    b_quals: &[u8],
-    b_depths: &[u16],
-    b_errors: &[u16],
-    b_annotation: Annotation,
-    b_marks: &[u8],
-    b_unconverted: &[u32],
-    b_converted: &[u32],
+    a: Option<VanillaConsensusRead>,
+    b: Option<VanillaConsensusRead>,
     position: usize,
-) -> NoCallReason
-    ensures { result ≡ reason_of
-        (strand a_present a_annotation (arrays a_bases.now a_quals.now a_depths.now a_errors.now a_marks.now a_unconverted.now a_converted.now))
-        (strand b_present b_annotation (arrays b_bases.now b_quals.now b_depths.now b_errors.now b_marks.now b_unconverted.now b_converted.now))
-        position }
+) -> Result<NoCallReason, Refusal>
+    ensures { result ≡ reason_of (given_of a.entry) (given_of b.entry) position }
 {
-    let a = GivenStrand {
-        present: a_present,
-        annotation: a_annotation,
-        lengths: lengths_of(
-            a_bases,
-            a_quals,
-            a_depths,
-            a_errors,
-            a_marks,
-            a_unconverted,
-            a_converted,
-        ),
-    };
-    let b = GivenStrand {
-        present: b_present,
-        annotation: b_annotation,
-        lengths: lengths_of(
-            b_bases,
-            b_quals,
-            b_depths,
-            b_errors,
-            b_marks,
-            b_unconverted,
-            b_converted,
-        ),
-    };
-    let kind = record_kind(a, a_depths, b, b_depths, false, 0, false);
-    let at_a = shown_at(a_annotation, a_bases, a_quals, a_marks, position);
-    let at_b = shown_at(b_annotation, b_bases, b_quals, b_marks, position);
-    reason_in(kind, at_a, at_b, position)
+    let made = record_kind(given_strand(a), given_strand(b), None)?;
+    let at_a = shown_at(a, position);
+    let at_b = shown_at(b, position);
+    Ok(reason_in(made, at_a, at_b, position))
 }

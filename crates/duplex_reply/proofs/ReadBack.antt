@@ -4,7 +4,7 @@ use Rattle.duplex_reply.specs.ReadBack.{ReadBack}
 
 pub read_back : ReadBack
 read_back = record {
-  refusals = λ n. refl;
+  refusals = λ row. refl;
   none = record { passes = refl; answers = refl };
   ab = λ n. record { passes = refl; answers = refl };
   ba = λ n. record { passes = refl; answers = refl };

@@ -1,10 +1,16 @@
-// The kind of a duplex record and its length as numbers, for the entry points that programs link. Uses replies and duplex_kind.
+// A strand that numbers tell of, and the kind of a duplex record and its length as numbers, for the entry points that programs link.
+// Uses refusals, replies, vanilla_caller and duplex_kind.
 #![tactic(auto)]
 
 ghost use Rattle.std.specs.Prelude.{◌≡◌};
+ghost use Rattle.vanilla_caller.specs.Strand.{arrays_in};
 ghost use Rattle.duplex_reply.specs.Reply.{record_for};
+ghost use Rattle.duplex_reply.specs.Strand.{told_by, strand_by};
 
 use duplex_kind::DuplexConsensus;
+use refusals::Refusal;
+use replies::annotation_in;
+use vanilla_caller::VanillaConsensusRead;
 
 // What a duplex record is: `refused` is the refusal's number, 0 for none; kind 0 is no record, 1 strand A alone, 2 strand B alone,
 // 3 both.
@@ -17,34 +23,40 @@ pub struct DuplexRecord {
 }
 
 // The answer of a combination as numbers.
-pub fn record_for(answer: DuplexConsensus) -> DuplexRecord
-    ensures { result ≡ record_for answer }
-{
-    match answer {
-        DuplexConsensus::Refused(number) => DuplexRecord {
-            refused: number,
-            kind: 0,
-            positions: 0,
-        },
-        DuplexConsensus::NoRecord => DuplexRecord {
-            refused: 0,
-            kind: 0,
-            positions: 0,
-        },
-        DuplexConsensus::Ab(n) => DuplexRecord {
-            refused: 0,
-            kind: 1,
-            positions: n,
-        },
-        DuplexConsensus::Ba(n) => DuplexRecord {
-            refused: 0,
-            kind: 2,
-            positions: n,
-        },
-        DuplexConsensus::Both(n) => DuplexRecord {
-            refused: 0,
-            kind: 3,
-            positions: n,
-        },
+impl From<Result<Option<DuplexConsensus>, Refusal>> for DuplexRecord {
+    ghost from_gives = { λ answer reply. reply ≡ record_for answer };
+
+    fn from(answer: Result<Option<DuplexConsensus>, Refusal>) -> DuplexRecord {
+        let (refused, kind, positions) = match answer {
+            Err(refusal) => (refusal.number(), 0, 0),
+            Ok(None) => (0, 0, 0),
+            Ok(Some(DuplexConsensus::Ab(n))) => (0, 1, n),
+            Ok(Some(DuplexConsensus::Ba(n))) => (0, 2, n),
+            Ok(Some(DuplexConsensus::Both(n))) => (0, 3, n),
+        };
+        DuplexRecord {
+            refused,
+            kind,
+            positions,
+        }
     }
+}
+
+// A strand as numbers tell of it: 0 is not present, any other number is; an annotation is 0 for none, 1 for C to T, 2 for G to A, and
+// is not looked at of a strand that is not present. Refuses by 13.
+pub fn strand_in<'a>(
+    present: u8,
+    annotation: u8,
+    strand: VanillaConsensusRead<'a>,
+) -> Result<Option<VanillaConsensusRead<'a>>, Refusal>
+    ensures { told_by result ≡ strand_by present annotation (arrays_in strand.entry) }
+{
+    if present == 0 {
+        return Ok(None);
+    }
+    let annotation = annotation_in(annotation)?;
+    Ok(Some(VanillaConsensusRead {
+        annotation,
+        ..strand
+    }))
 }

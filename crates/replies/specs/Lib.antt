@@ -1,3 +1,4 @@
 pub mod Choices
 pub mod ReadBack
 pub mod Replies
+pub mod NumbersBack

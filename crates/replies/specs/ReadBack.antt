@@ -1,5 +1,13 @@
 -- That an answer can be read back from its numbers: no two answers are told alike, and no member stands for another.
-use Rattle.std.specs.Prelude.{ℕ, ◌≡◌}
+use Rattle.std.specs.Prelude.{ℕ, ◌≡◌, Result, Ok, Err}
+use Rattle.refusals.specs.declared.Refusal.{Refusal}
+use Rattle.refusals.specs.Refusal.{number_of}
+
+-- A refusal by its row's number; any other answer, whose number is 0, by `back`.
+pub record AnswersBack {Told Numbers : Type 0} (reply : Result Told Refusal → Numbers) (number : Numbers → ℕ) (back : Numbers → Told) : Type 0 where
+  pub refusals : (row : Refusal) → number (reply (Err row)) ≡ number_of row
+  pub passes : (x : Told) → number (reply (Ok x)) ≡ 0
+  pub answers : (x : Told) → back (reply (Ok x)) ≡ x
 
 -- A refusal by its number; any other answer, whose number is 0, by `back`.
 pub record ReadsBack {Answer Told Numbers : Type 0} (refused : ℕ → Answer) (told : Told → Answer) (reply : Answer → Numbers) (number : Numbers → ℕ) (back : Numbers → Told) : Type 0 where

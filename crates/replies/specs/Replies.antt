@@ -1,5 +1,7 @@
 -- An answer as numbers, and what an entry promises by the library's call.
-use Rattle.std.specs.Prelude.{ℕ, ◌≡◌, Bool, true, false}
+use Rattle.std.specs.Prelude.{ℕ, ◌≡◌, Bool, true, false, cond, Result, Ok, Err}
+use Rattle.refusals.specs.declared.Refusal.{Refusal}
+use Rattle.refusals.specs.Refusal.{number_of}
 use Rattle.replies.specs.declared.Count.{Count}
 use Rattle.replies.specs.declared.Number.{Number}
 
@@ -16,6 +18,19 @@ no_number number = record { refused = number; number = 0 }
 
 abbrev pub numbered : ℕ → Number
 numbered n = record { refused = 0; number = n }
+
+-- An answer as numbers: its refusal, or what was asked for; of a yes or no, 1 is yes.
+abbrev pub count_reply : Result ℕ Refusal → Count
+count_reply (Ok n) = counted n
+count_reply (Err refusal) = not_counted (number_of refusal)
+
+abbrev pub number_reply : Result ℕ Refusal → Number
+number_reply (Ok n) = numbered n
+number_reply (Err refusal) = no_number (number_of refusal)
+
+abbrev pub bit_reply : Result Bool Refusal → Number
+bit_reply (Ok b) = numbered (cond b 1 0)
+bit_reply (Err refusal) = no_number (number_of refusal)
 
 -- What an entry answers and leaves where a number stands for nothing: 13, and every output as it was.
 pub record TurnedDown {Numbers Outputs : Type 0} (broken : Numbers) (before now : Outputs) (r : Numbers) : Type 0 where

@@ -1,11 +1,13 @@
 // Answers and choices as numbers, for the entry points that programs link: what a number stands for, and what an answer is as
-// numbers. Uses methylation.
+// numbers. Uses refusals and methylation.
 #![tactic(auto)]
 
 ghost use Rattle.std.specs.Prelude.{◌≡◌};
-ghost use Rattle.replies.specs.Choices.{annotation_of, pattern_of, mode_of, wrong_annotation, wrong_pattern, wrong_mode};
+ghost use Rattle.methylation.specs.Choices.{annotation_in, annotation_of, wrong_annotation};
+ghost use Rattle.replies.specs.Replies.{bit_reply, count_reply, number_reply};
 
-use methylation::{Annotation, ConversionPattern, MethylationMode};
+use methylation::ConversionPattern;
+use refusals::Refusal;
 
 // `refused` is the refusal's number; where it is 0, so many elements are written to each output.
 #[repr(C)]
@@ -13,6 +15,20 @@ use methylation::{Annotation, ConversionPattern, MethylationMode};
 pub struct Count {
     pub refused: u8,
     pub count: usize,
+}
+
+impl From<Result<usize, Refusal>> for Count {
+    ghost from_gives = { λ answer reply. reply ≡ count_reply answer };
+
+    fn from(answer: Result<usize, Refusal>) -> Count {
+        match answer {
+            Ok(count) => Count { refused: 0, count },
+            Err(refusal) => Count {
+                refused: refusal.number(),
+                count: 0,
+            },
+        }
+    }
 }
 
 // `refused` is the refusal's number; where it is 0, the number that was asked for.
@@ -23,7 +39,31 @@ pub struct Number {
     pub number: u32,
 }
 
+impl From<Result<u32, Refusal>> for Number {
+    ghost from_gives = { λ answer reply. reply ≡ number_reply answer };
+
+    fn from(answer: Result<u32, Refusal>) -> Number {
+        match answer {
+            Ok(number) => Number { refused: 0, number },
+            Err(refusal) => Number {
+                refused: refusal.number(),
+                number: 0,
+            },
+        }
+    }
+}
+
+// 1 is yes, and 0 no.
+impl From<Result<bool, Refusal>> for Number {
+    ghost from_gives = { λ answer reply. reply ≡ bit_reply answer };
+
+    fn from(answer: Result<bool, Refusal>) -> Number {
+        Number::from(answer.map(u32::from))
+    }
+}
+
 // Whether a number stands for no annotation and no absence of one.
+// An absent strand's number is not looked at, so that the test and the reading are two.
 pub fn wrong_annotation(number: u8) -> bool
     ensures { result ≡ wrong_annotation number }
 {
@@ -31,48 +71,22 @@ pub fn wrong_annotation(number: u8) -> bool
 }
 
 // 0: no annotation; 1: C to T; any other number: G to A.
-pub fn annotation_of(number: u8) -> Annotation
+pub fn annotation_of(number: u8) -> Option<ConversionPattern>
     ensures { result ≡ annotation_of number }
 {
-    if number == 0 {
-        return Annotation::Absent;
+    match number {
+        0 => None,
+        1 => Some(ConversionPattern::CToT),
+        _ => Some(ConversionPattern::GToA),
     }
-    Annotation::Of(pattern_of(number))
 }
 
-// Whether a number stands for no pattern.
-pub fn wrong_pattern(number: u8) -> bool
-    ensures { result ≡ wrong_pattern number }
+// The annotation that a number stands for.
+pub fn annotation_in(number: u8) -> Result<Option<ConversionPattern>, Refusal>
+    ensures { result ≡ annotation_in number }
 {
-    (number == 0) | (2 < number)
-}
-
-// 1: C to T; any other number: G to A.
-pub fn pattern_of(number: u8) -> ConversionPattern
-    ensures { result ≡ pattern_of number }
-{
-    if number == 1 {
-        return ConversionPattern::CToT;
+    if wrong_annotation(number) {
+        return Err(Refusal::Broken);
     }
-    ConversionPattern::GToA
-}
-
-// Whether a number stands for no mode.
-pub fn wrong_mode(number: u8) -> bool
-    ensures { result ≡ wrong_mode number }
-{
-    2 < number
-}
-
-// 0: Disabled; 1: EM-Seq; any other number: TAPs.
-pub fn mode_of(number: u8) -> MethylationMode
-    ensures { result ≡ mode_of number }
-{
-    if number == 0 {
-        return MethylationMode::Disabled;
-    }
-    if number == 1 {
-        return MethylationMode::EmSeq;
-    }
-    MethylationMode::Taps
+    Ok(annotation_of(number))
 }

@@ -1,18 +1,39 @@
 -- The claims of `specs/ReadBack.antt`. Assumes nothing.
 use mathlib.Core.Path.{refl}
-use Rattle.rust_reason.specs.ReadBack.{ReadBack}
+use Rattle.duplex_reason.specs.declared.NoCallReason.TheVariants.{Outside, SingleStrand, Called, ANoCall, BNoCall, BothNoCall, EqualQualities, CloseQualities, LowSum, LowConfirming}
+use Rattle.rust_reason.specs.ReadBack.{ReadBack, ReasonBack}
 
 pub read_back : ReadBack
 read_back = record {
-  refusals = λ n. refl;
-  outside = record { passes = refl; answers = refl };
-  single = record { passes = refl; answers = refl };
-  called = record { passes = refl; answers = refl };
-  a_no_call = record { passes = refl; answers = refl };
-  b_no_call = record { passes = refl; answers = refl };
-  both_no_call = record { passes = refl; answers = refl };
-  equal = record { passes = refl; answers = refl };
-  close = record { passes = refl; answers = refl };
-  low_sum = record { passes = refl; answers = refl };
-  low_confirming = record { passes = refl; answers = refl };
+  refusals = λ row. refl;
+  passes = λ reason. refl;
+  answers = elim [
+    | Outside ↦ refl
+    | SingleStrand ↦ refl
+    | Called ↦ refl
+    | ANoCall ↦ refl
+    | BNoCall ↦ refl
+    | BothNoCall ↦ refl
+    | EqualQualities ↦ refl
+    | CloseQualities ↦ refl
+    | LowSum ↦ refl
+    | LowConfirming ↦ refl
+  ];
+}
+
+pub reason_back : ReasonBack
+reason_back = record {
+  refused = λ row. refl;
+  answered = elim [
+    | Outside ↦ refl
+    | SingleStrand ↦ refl
+    | Called ↦ refl
+    | ANoCall ↦ refl
+    | BNoCall ↦ refl
+    | BothNoCall ↦ refl
+    | EqualQualities ↦ refl
+    | CloseQualities ↦ refl
+    | LowSum ↦ refl
+    | LowConfirming ↦ refl
+  ];
 }

@@ -1,16 +1,20 @@
 // Why a position of a record shows N, document 02's #101, as an entry point over numbers as they are: the answer as numbers, and row 13
-// for an annotation. Uses refusals, replies and duplex_reason.
+// for an annotation. Uses refusals, methylation, vanilla_caller, duplex_kind, duplex_reply and duplex_reason.
 #![tactic(auto)]
 
 ghost use Rattle.std.specs.Prelude.{◌≡◌, ◌&&◌, ◌||◌};
-ghost use Rattle.replies.specs.Choices.{yes, annotation_of, wrong_annotation};
+ghost use Rattle.methylation.specs.Choices.{annotation_of, wrong_annotation};
+ghost use Rattle.replies.specs.Choices.{yes};
 ghost use Rattle.vanilla_caller.specs.Strand.{arrays};
 ghost use Rattle.duplex_kind.specs.Kind.{strand};
-ghost use Rattle.rust_reason.specs.Reply.{reason_for, entry_reason};
+ghost use Rattle.duplex_reply.specs.Strand.{told_by};
+ghost use Rattle.rust_reason.specs.Reply.{reason_number, reason_for, entry_reason, reason_between};
 
 use duplex_reason::{NoCallReason, no_call_reason};
-use refusals::BROKEN;
-use replies::{annotation_of, wrong_annotation};
+use duplex_reply::strand_in;
+use methylation::EvidenceSlices;
+use refusals::Refusal;
+use vanilla_caller::VanillaConsensusRead;
 
 // What is said of a position: `refused` is the refusal's number, 0 for none; reason 0 is refused, 1 outside the record, 2 within a record
 // of one strand, 3 called. The record shows N: 4 A alone shows N, 5 B alone, 6 both; 7 the bases differ at equal qualities, 8 at a
@@ -22,67 +26,56 @@ pub struct Reason {
     pub reason: u8,
 }
 
-// The answer as numbers.
-pub fn reason_for(answer: NoCallReason) -> Reason
-    ensures { result ≡ reason_for answer }
+// The numbers are those that C sees.
+fn reason_number(reason: NoCallReason) -> u8
+    ensures { result ≡ reason_number reason }
 {
-    match answer {
-        NoCallReason::Refused(number) => Reason {
-            refused: number,
-            reason: 0,
-        },
-        NoCallReason::Outside => Reason {
-            refused: 0,
-            reason: 1,
-        },
-        NoCallReason::SingleStrand => Reason {
-            refused: 0,
-            reason: 2,
-        },
-        NoCallReason::Called => Reason {
-            refused: 0,
-            reason: 3,
-        },
-        NoCallReason::ANoCall => Reason {
-            refused: 0,
-            reason: 4,
-        },
-        NoCallReason::BNoCall => Reason {
-            refused: 0,
-            reason: 5,
-        },
-        NoCallReason::BothNoCall => Reason {
-            refused: 0,
-            reason: 6,
-        },
-        NoCallReason::EqualQualities => Reason {
-            refused: 0,
-            reason: 7,
-        },
-        NoCallReason::CloseQualities => Reason {
-            refused: 0,
-            reason: 8,
-        },
-        NoCallReason::LowSum => Reason {
-            refused: 0,
-            reason: 9,
-        },
-        NoCallReason::LowConfirming => Reason {
-            refused: 0,
-            reason: 10,
-        },
+    match reason {
+        NoCallReason::Outside => 1,
+        NoCallReason::SingleStrand => 2,
+        NoCallReason::Called => 3,
+        NoCallReason::ANoCall => 4,
+        NoCallReason::BNoCall => 5,
+        NoCallReason::BothNoCall => 6,
+        NoCallReason::EqualQualities => 7,
+        NoCallReason::CloseQualities => 8,
+        NoCallReason::LowSum => 9,
+        NoCallReason::LowConfirming => 10,
     }
 }
 
-// Row 13's condition for a strand: it is present, and its annotation stands for nothing.
-fn is_wrong(present: u8, annotation: u8) -> bool
-    ensures { result ≡ (yes present && wrong_annotation annotation) }
+// The answer as numbers.
+impl From<Result<NoCallReason, Refusal>> for Reason {
+    ghost from_gives = { λ answer reply. reply ≡ reason_for answer };
+
+    fn from(answer: Result<NoCallReason, Refusal>) -> Reason {
+        match answer {
+            Ok(reason) => Reason {
+                refused: 0,
+                reason: reason_number(reason),
+            },
+            Err(refusal) => Reason {
+                refused: refusal.number(),
+                reason: 0,
+            },
+        }
+    }
+}
+
+// The reason between two strands, each of which may be refused.
+fn reason_between(
+    a: Result<Option<VanillaConsensusRead>, Refusal>,
+    b: Result<Option<VanillaConsensusRead>, Refusal>,
+    position: usize,
+) -> Result<NoCallReason, Refusal>
+    ensures { result ≡ reason_between (told_by a.entry) (told_by b.entry) position }
 {
-    (present != 0) & wrong_annotation(annotation)
+    no_call_reason(a?, b?, position)
 }
 
 // Why a position of the record that two strands make shows N. Present: 0 is no, any other number yes; an annotation: 0 is none, 1 C to T,
 // 2 G to A, and is not looked at of a strand that is not present. Refuses by 13, then 7, 8, whether or not there is a record.
+#[tactic(auto, using(crate::proofs::Entry::between))]
 #[unsafe(no_mangle)]
 pub extern "C" fn gedrashiw_no_call_reason_typed(
     a_present: u8,
@@ -111,28 +104,31 @@ pub extern "C" fn gedrashiw_no_call_reason_typed(
         (strand (yes b_present) (annotation_of b_annotation) (arrays b_bases.now b_quals.now b_depths.now b_errors.now b_marks.now b_unconverted.now b_converted.now))
         position) }
 {
-    if is_wrong(a_present, a_annotation) | is_wrong(b_present, b_annotation) {
-        return reason_for(NoCallReason::Refused(BROKEN));
-    }
-    reason_for(no_call_reason(
-        a_present != 0,
-        a_bases,
-        a_quals,
-        a_depths,
-        a_errors,
-        annotation_of(a_annotation),
-        a_marks,
-        a_unconverted,
-        a_converted,
-        b_present != 0,
-        b_bases,
-        b_quals,
-        b_depths,
-        b_errors,
-        annotation_of(b_annotation),
-        b_marks,
-        b_unconverted,
-        b_converted,
-        position,
-    ))
+    let a = VanillaConsensusRead {
+        bases: a_bases,
+        quals: a_quals,
+        depths: a_depths,
+        errors: a_errors,
+        annotation: None,
+        evidence: EvidenceSlices {
+            marks: a_marks,
+            unconverted: a_unconverted,
+            converted: a_converted,
+        },
+    };
+    let b = VanillaConsensusRead {
+        bases: b_bases,
+        quals: b_quals,
+        depths: b_depths,
+        errors: b_errors,
+        annotation: None,
+        evidence: EvidenceSlices {
+            marks: b_marks,
+            unconverted: b_unconverted,
+            converted: b_converted,
+        },
+    };
+    let a = strand_in(a_present, a_annotation, a);
+    let b = strand_in(b_present, b_annotation, b);
+    Reason::from(reason_between(a, b, position))
 }
