@@ -9,17 +9,20 @@ use Prim.Native.Nat.{ℕ, ◌≤◌}
 use native.Mathlib.Omega.{arith}
 use borrow.Author.Tests.{le-ltb}
 use lib.ListN.{length, take, replicate, length-replicate}
-use Rattle.refusals.specs.Refusal.{too_many, refusal}
+use Rattle.std.proofs.Common.{Option, Some, None}
+use Rattle.refusals.specs.declared.Refusal.{Refusal}
+use Rattle.refusals.specs.declared.Refusal.TheVariants.{Broken, TooLong, Ragged, TooManyReads, PartOutside, OutputTooShort}
+use Rattle.refusals.specs.Refusal.{too_many}
 use Rattle.refusals.proofs.Condition.{nor_where, both_hold}
 use Rattle.methylation.specs.Arrays.{EvidenceArrays, evidence_arrays, evidence_lengths, evidence_too_short}
 use Rattle.vanilla_caller.specs.Strand.{lengths}
 use Rattle.duplex_outputs.specs.Outputs.{RecordArrays, record_of, record_lengths, record_too_short}
-use Rattle.duplex_kind.specs.Kind.{Strand, given, annotated, positions, shorter_present, record_length, some_depth, covered, kind_by, kind_of, long, uneven, given_faults}
-use Rattle.duplex_kind.specs.declared.DuplexConsensus.TheVariants.{NoRecord, Ab, Ba, Both}
-use Rattle.duplex_record.specs.Record.{outputs_short, duplex_faults}
+use Rattle.duplex_kind.specs.Kind.{Strand, given, annotated, positions, record_length, some_depth, covered, kind_of, long, uneven}
+use Rattle.duplex_kind.specs.declared.DuplexConsensus.TheVariants.{Ab, Ba, Both}
+use Rattle.duplex_record.specs.Record.{outputs_short}
 use Rattle.molecule_reads.specs.Run.{reads_of}
 use Rattle.molecule_strand.specs.Strand.{StrandBytes, strand_of}
-use Rattle.molecule_consensus.specs.Bytes.{broken, bytes_faults, bytes_refused, inputs_refused}
+use Rattle.molecule_consensus.specs.Bytes.{broken, bytes_refused, inputs_refused}
 use Rattle.molecule_consensus.proofs.Few.{not_long}
 
 pub record AmpleEvidence (out : EvidenceArrays) : Type 0 where
@@ -45,14 +48,12 @@ zeros_ample =
 
 -- Row 12 does not refuse the outputs of a strand's evidence.
 evidence_holds : {out : EvidenceArrays} → AmpleEvidence out → (n : ℕ) → n ≤ 1024 → evidence_too_short n (evidence_lengths out) ≡ false
-unfolding evidence_too_short
 evidence_holds {out} room n h =
     rw
     (le-ltb (length out.marks) n (omega (arith, room.marks)), le-ltb (length out.unconverted) n (omega (arith, room.unconverted)), le-ltb (length out.converted) n (omega (arith, room.converted)))
 
 module _ (out : RecordArrays) (room : Ample out) where
   holds : (n : ℕ) (p q : Bool) → n ≤ 1024 → record_too_short n p q (record_lengths out) ≡ false
-  unfolding record_too_short
   holds n p q h =
       rw
       (le-ltb (length out.bases) n (omega (arith, room.bases)), le-ltb (length out.quals) n (omega (arith, room.quals)), le-ltb (length out.errors) n (omega (arith, room.errors)), evidence_holds room.a n h, evidence_holds room.b n h)
@@ -70,7 +71,7 @@ module _ (out : RecordArrays) (room : Ample out) where
         → (in_a ≡ true → positions a ≤ 1024)
         → (in_b ≡ true → positions b ≤ 1024)
         → (in_a ≡ true → in_b ≡ true → n ≤ 1024)
-        → outputs_short a b out (cond in_a (cond in_b (Both n) (Ab (positions a))) (cond in_b (Ba (positions b)) NoRecord)) ≡ false
+        → outputs_short a b out (cond in_a (cond in_b (Some (Both n)) (Some (Ab (positions a)))) (cond in_b (Some (Ba (positions b))) None)) ≡ false
     by_kind true true n f g h = holds n (annotated a) (annotated b) (h refl refl)
     by_kind true false n f g h = holds (positions a) (annotated a) false (f refl)
     by_kind false true n f g h = holds (positions b) (annotated b) false (g refl)
@@ -83,7 +84,6 @@ module _ (out : RecordArrays) (room : Ample out) where
         (not_long (annotated s) (lengths s.arrays) (rw there at h)).0.0
 
     none_short : (long (given a) || long (given b)) ≡ false → outputs_short a b out (kind_of a b) ≡ false
-    unfolding kind_by shorter_present
     none_short h =
         let (few_a, few_b) = nor_where (long (given a)) true (long (given b)) h in
         by_kind (covered (record_length a b) a) (covered (record_length a b) b) (record_length a b) (few a few_a) (few b (few_b refl))
@@ -93,19 +93,18 @@ module _ (out : RecordArrays) (room : Ample out) where
         rw (there_a, there_b) (omega (arith, few a few_a in_a)))
 
 -- A last row that is not met where the second is not.
-abbrev rows : Bool → Bool → Bool → Bool → Bool → ℕ → ℕ
-rows x l u t g rest = cond x 13 (cond l 7 (cond u 8 (cond t 9 (cond g 10 rest))))
+abbrev rows : Bool → Bool → Bool → Bool → Bool → Option Refusal → Option Refusal
+rows x l u t g rest = cond x (Some Broken) (cond l (Some TooLong) (cond u (Some Ragged) (cond t (Some TooManyReads) (cond g (Some PartOutside) rest))))
 
-abbrev last_row : Bool → ℕ
-last_row s = cond s 12 0
+abbrev last_row : Bool → Option Refusal
+last_row s = cond s (Some OutputTooShort) None
 
-last : (x l u t g s : Bool) → (l ≡ false → s ≡ false) → rows x l u t g (last_row s) ≡ rows x l u t g 0
+last : (x l u t g s : Bool) → (l ≡ false → s ≡ false) → rows x l u t g (last_row s) ≡ rows x l u t g None
 last true l u t g s h = refl
 last false true u t g s h = refl
 last false false u t g s h = rw (h refl)
 
 pub inputs_alone : (a b : StrandBytes) (listed : Bool) (run : List ℕ) (out : RecordArrays) → Ample out → bytes_refused a b listed run out ≡ inputs_refused a b listed run
-unfolding bytes_faults inputs_refused duplex_faults given_faults refusal
 inputs_alone a b listed run out room =
     let A = strand_of a in
     let B = strand_of b in

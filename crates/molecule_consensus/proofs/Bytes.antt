@@ -1,193 +1,185 @@
--- What is promised of a call on bytes, by its test of their counts and what the calls below answered.
---     turned_down     refused by row 13 or 7
---     passed_on       passed by them: the record of the numbers that were read, and the errors counted after it
+-- What is promised of a call on bytes, by its tests of the run and of the byte counts, and by what the call below them answered.
+--     seen_is                 what is looked at of a strand
+--     narrow                  a strand that row 7 does not refuse has at most 1,024 positions an array
+--     torn_down               refused by row 13, of the run
+--     turned_down             refused by row 13 or 7, of the byte counts
+--     passed_on               passed by them: the record of the numbers that were read, with its errors counted
 -- Assumes nothing.
 use mathlib.Core.Path.{◌≡◌, refl, sym, ap, subst, ◌∙◌}
 use mathlib.Core.Bool.{Bool, true, false, cond, not, ◌&&◌, ◌||◌}
 use mathlib.Core.List.{List}
-use Prim.Native.Nat.{ℕ}
+use Prim.Native.Nat.{ℕ, ◌%◌}
 use native.Mathlib.Omega.{arith}
+use lib.Dec.{eqb}
 use lib.ListN.{length}
-use Rattle.lists.specs.Output.{answer}
+use Rattle.std.proofs.Common.{Option, None, Some, Result, Ok, Err}
 use Rattle.lists.specs.Part.{only_if}
-use Rattle.lists.proofs.Output.{answer_refused}
-use Rattle.refusals.specs.Refusal.{refusal, Broken, TooLong}
-use Rattle.refusals.proofs.Refusal.{passed}
-use Rattle.refusals.proofs.Condition.{nor_where}
-use Rattle.methylation.specs.declared.Annotation.{Annotation}
-use Rattle.methylation.specs.declared.Annotation.TheVariants.{Absent, Of}
-use Rattle.vanilla_caller.specs.Strand.{strand_too_long}
-use Rattle.byte_numbers.specs.Bytes.{number_of}
+use Rattle.refusals.specs.declared.Refusal.{Refusal}
+use Rattle.refusals.specs.declared.Refusal.TheVariants.{Broken, TooLong}
+use Rattle.refusals.specs.Refusal.{refused}
+use Rattle.refusals.specs.Outcome.{answer}
+use Rattle.refusals.proofs.Condition.{neither}
+use Rattle.byte_numbers.specs.Bytes.{number_of, odd_count}
 use Rattle.byte_numbers.proofs.Groups.{length_by_group}
+use Rattle.methylation.specs.Methylation.{is_annotated}
+use Rattle.methylation.specs.declared.ConversionPattern.{ConversionPattern}
 use Rattle.molecule_evidence.specs.Evidence.{mark_in, count_in}
 use Rattle.molecule_fields.specs.Widths.{is_run}
-use Rattle.duplex_molecule.specs.Molecule.{ct_input}
-use Rattle.source_reads.specs.Reads.{counted_errors}
 use Rattle.molecule_reads.specs.Run.{reads_of}
-use Rattle.duplex_outputs.specs.Outputs.{RecordArrays}
+use Rattle.duplex_outputs.specs.Outputs.{RecordArrays, LeavesRecord}
 use Rattle.duplex_outputs.proofs.Outputs.{record_refused}
-use Rattle.duplex_strands.specs.Combine.{uncounted}
-use Rattle.duplex_kind.specs.Kind.{Strand, given, kind_of, long, given_faults}
+use Rattle.duplex_kind.specs.Kind.{given, kind_of, long}
 use Rattle.duplex_kind.specs.declared.DuplexConsensus.{DuplexConsensus}
-use Rattle.duplex_kind.specs.declared.DuplexConsensus.TheVariants.{Refused}
-use Rattle.duplex_record.specs.Record.{duplex_faults, duplex_refused, DuplexAs}
-use Rattle.duplex_consensus.specs.Consensus.{counted_positions}
-use Rattle.duplex_consensus.proofs.Made.{with_errors}
+use Rattle.duplex_record.specs.Record.{duplex_refused, DuplexAs}
 use Rattle.molecule_errors.specs.Run.{run_errors}
-use Rattle.molecule_errors.proofs.Run.{made_as}
 use Rattle.molecule_strand.specs.Rows.{misfit_in, numbers_in, long_in, early_faults}
-use Rattle.molecule_strand.specs.Strand.{StrandBytes, strand_bytes, strand_of, strand_within, Narrow}
-use Rattle.molecule_strand.specs.declared.ByteCounts.{ByteCounts}
-use Rattle.molecule_strand.proofs.Strand.{narrow_whole}
-use Rattle.molecule_consensus.specs.Bytes.{evident, seen, misfit, broken, bytes_faults, bytes_refused, BytesAs}
-use Rattle.molecule_consensus.proofs.Absent.{absent_first, absent_second}
+use Rattle.molecule_strand.specs.Strand.{StrandBytes, strand_bytes, strand_of, encoded_in, Narrow}
+use Rattle.molecule_strand.specs.declared.EncodedStrand.{EncodedStrand}
+use Rattle.molecule_strand.proofs.Strand.{looked_at}
+use Rattle.molecule_consensus.specs.Bytes.{seen, misfit, broken, bytes_refused, bytes_record, BytesAs}
 use Rattle.molecule_consensus.proofs.Few.{not_long}
 
-abbrev byte_counts : StrandBytes → ByteCounts
-byte_counts s = record {
-  present = s.present;
-  annotation = s.annotation;
-  bases = length s.bases;
-  quals = length s.quals;
-  depths = length s.depths;
-  errors = length s.errors;
-  evidence = length s.evidence;
-}
+pub seen_is : (s : Option EncodedStrand) → seen (encoded_in s) ≡ looked_at (encoded_in s)
+unfolding only_if
+seen_is None = refl
+seen_is (Some s) = refl
 
--- What is read: of bases and qualities no more is looked at than how many there are.
-abbrev read : StrandBytes → StrandBytes
-read s = strand_bytes s.present s.annotation s.bases s.quals (only_if s.present s.depths) (only_if s.present s.errors) (only_if (evident s) s.evidence)
+or_assoc : (p q r : Bool) → ((p || q) || r) ≡ (p || (q || r))
+or_assoc true q r = refl
+or_assoc false q r = refl
 
 -- The tests look at nothing of an absent strand, nor at evidence without an annotation.
-same_misfit : (present : Bool) (annotation : Annotation) (bases quals depths errors evidence : List ℕ) →
-    let s = strand_bytes present annotation bases quals depths errors evidence in
-    misfit_in (byte_counts s) ≡ misfit (seen s)
-unfolding only_if
-same_misfit false annotation bases quals depths errors evidence = refl
-same_misfit true Absent bases quals depths errors evidence = refl
-same_misfit true (Of pattern) bases quals depths errors evidence = refl
+module _ where
+  counted : (annotation : Option ConversionPattern) (d e v : List ℕ) →
+      ((odd_count (length d) || odd_count (length e)) || (is_annotated annotation && not (eqb (length v % 9) 0)))
+      ≡ (odd_count (length d) || (odd_count (length e) || not (eqb (length (only_if (is_annotated annotation) v) % 9) 0)))
+  unfolding only_if
+  counted None d e v = or_assoc (odd_count (length d)) (odd_count (length e)) false
+  counted (Some pattern) d e v = or_assoc (odd_count (length d)) (odd_count (length e)) (not (eqb (length v % 9) 0))
 
-seen_long : (present : Bool) (annotation : Annotation) (bases quals depths errors evidence : List ℕ) →
-    let s = strand_bytes present annotation bases quals depths errors evidence in
-    long_in (byte_counts s) ≡ long_in (byte_counts (seen s))
-unfolding only_if numbers_in strand_too_long
-seen_long false annotation bases quals depths errors evidence = refl
-seen_long true Absent bases quals depths errors evidence = refl
-seen_long true (Of pattern) bases quals depths errors evidence = refl
+  pub same_misfit : (s : Option EncodedStrand) → misfit_in (encoded_in s) ≡ misfit (seen (encoded_in s))
+  unfolding only_if
+  same_misfit None = refl
+  same_misfit (Some s) = counted s.annotation s.depths.now s.errors.now s.evidence.now
 
-abbrev long_is : Strand → Bool
-long_is s = long (given s)
+  seen_long : (present : Bool) (annotation : Option ConversionPattern) (bases quals depths errors evidence : List ℕ) →
+      let s = strand_bytes present annotation bases quals depths errors evidence in
+      long_in s ≡ long_in (seen s)
+  unfolding only_if
+  seen_long false annotation bases quals depths errors evidence = refl
+  seen_long true None bases quals depths errors evidence = refl
+  seen_long true (Some pattern) bases quals depths errors evidence = refl
 
--- Row 7 counts the numbers that the bytes are.
-of_numbers : (s : StrandBytes) → long_in (byte_counts s) ≡ long_is (strand_of s)
-unfolding strand_of numbers_in
-of_numbers s =
-    rw
-    (length_by_group 2 number_of s.depths, length_by_group 2 number_of s.errors, length_by_group 9 mark_in s.evidence, length_by_group 9 (count_in 1) s.evidence, length_by_group 9 (count_in 5) s.evidence)
+  -- Refusal 7 counts the numbers that the bytes are.
+  of_numbers : (s : StrandBytes) → long_in s ≡ long (given (strand_of s))
+  unfolding strand_of
+  of_numbers s =
+      rw
+      (length_by_group 2 number_of s.depths, length_by_group 2 number_of s.errors, length_by_group 9 mark_in s.evidence, length_by_group 9 (count_in 1) s.evidence, length_by_group 9 (count_in 5) s.evidence)
 
-same_long : (s : StrandBytes) → long_in (byte_counts s) ≡ long_is (strand_of (seen s))
-same_long s = seen_long s.present s.annotation s.bases s.quals s.depths s.errors s.evidence ∙ of_numbers (seen s)
+  pub same_long : (s : StrandBytes) → long_in s ≡ long (given (strand_of (seen s)))
+  same_long s = seen_long s.present s.annotation s.bases s.quals s.depths s.errors s.evidence ∙ of_numbers (seen s)
 
 -- What is read of a strand that row 7 does not refuse is all of it.
-narrow : (present : Bool) (annotation : Annotation) (bases quals depths errors evidence : List ℕ) →
-    let s = strand_bytes present annotation bases quals depths errors evidence in
-    long_in (byte_counts s) ≡ false → Narrow (read s)
-unfolding only_if numbers_in
-narrow false annotation bases quals depths errors evidence h = record { depths = omega arith; errors = omega arith; evidence = omega arith }
-narrow true Absent bases quals depths errors evidence h =
-    let all = (not_long false _ h).0 in
+narrow_of : (annotation : Option ConversionPattern) (bases quals depths errors evidence : List ℕ) →
+    let s = strand_bytes true annotation bases quals depths errors evidence in
+    long_in s ≡ false → Narrow (looked_at s)
+unfolding only_if
+narrow_of None bases quals depths errors evidence h =
+    let all = (not_long false (numbers_in (strand_bytes true None bases quals depths errors evidence)) h).0 in
     record { depths = all.1.1.0; errors = all.1.1.1.0; evidence = omega arith }
-narrow true (Of pattern) bases quals depths errors evidence h =
-    let (all, more) = not_long true _ h in
+narrow_of (Some pattern) bases quals depths errors evidence h =
+    let (all, more) = not_long true (numbers_in (strand_bytes true (Some pattern) bases quals depths errors evidence)) h in
     record { depths = all.1.1.0; errors = all.1.1.1.0; evidence = (more refl).0 }
 
-all_read : (s : StrandBytes) → long_in (byte_counts s) ≡ false → strand_within 1024 (read s) ≡ strand_of (read s)
-all_read s h = narrow_whole (read s) (narrow s.present s.annotation s.bases s.quals s.depths s.errors s.evidence h)
-
--- The bases and qualities of an absent strand do not count.
-module _ (listed : Bool) (run : List ℕ) (n : ℕ) (before now : RecordArrays) (r : DuplexConsensus) where
-  abbrev Made : Strand → Strand → Type 0
-  Made a b = DuplexAs a b listed n false (run_errors a b run) before now r
-
-  first_seen : (present : Bool) (annotation : Annotation) (bases quals depths errors evidence : List ℕ) (b : Strand) →
-      let s = strand_bytes present annotation bases quals depths errors evidence in
-      Made (strand_of (read s)) b → Made (strand_of (seen s)) b
-  unfolding only_if strand_of
-  first_seen true annotation bases quals depths errors evidence b d = d
-  first_seen false annotation bases quals depths errors evidence b d = absent_first annotation _ _ b listed n _ _ before d
-
-  second_seen : (present : Bool) (annotation : Annotation) (bases quals depths errors evidence : List ℕ) (a : Strand) →
-      let s = strand_bytes present annotation bases quals depths errors evidence in
-      Made a (strand_of (read s)) → Made a (strand_of (seen s))
-  unfolding only_if strand_of
-  second_seen true annotation bases quals depths errors evidence a d = d
-  second_seen false annotation bases quals depths errors evidence a d = absent_second annotation _ _ a listed n _ _ before d
-
-  all_seen : (a b : StrandBytes) → Made (strand_of (read a)) (strand_of (read b)) → Made (strand_of (seen a)) (strand_of (seen b))
-  all_seen a b d =
-      let at_a = first_seen a.present a.annotation a.bases a.quals a.depths a.errors a.evidence (strand_of (read b)) d in
-      let at_b = second_seen b.present b.annotation b.bases b.quals b.depths b.errors b.evidence (strand_of (seen a)) at_a in
-      at_b
+pub narrow : (s : Option EncodedStrand) → long_in (encoded_in s) ≡ false → Narrow (looked_at (encoded_in s))
+unfolding only_if
+narrow None h = record { depths = omega arith; errors = omega arith; evidence = omega arith }
+narrow (Some s) h = narrow_of s.annotation s.bases.now s.quals.now s.depths.now s.errors.now s.evidence.now h
 
 -- A refusal by one of the first two rows is one whatever comes after.
-abbrev two_rows : Bool → Bool → ℕ → ℕ
-two_rows x l rest = cond x 13 (cond l 7 rest)
+abbrev two_rows : Bool → Bool → Option Refusal → Option Refusal
+two_rows x l rest = cond x (Some Broken) (cond l (Some TooLong) rest)
 
-first_two : (x l : Bool) (rest : ℕ) → (two_rows x l 0 ≡ 0 → ⊥) → two_rows x l 0 ≡ two_rows x l rest
-first_two true l rest h = refl
-first_two false true rest h = refl
-first_two false false rest h = absurd (h refl)
+first_two : (x l : Bool) (rest : Option Refusal) {row : Refusal} → answer (two_rows x l None) (tt {0}) ≡ Err row → two_rows x l rest ≡ Some row
+first_two true l rest e = cc
+first_two false true rest e = cc
+first_two false false rest {row} e = absurd (no e)
+  where
+    no : ◌≡◌ {A = Result (Unit {0}) Refusal} (Ok tt) (Err row) → ⊥
+    no q = cc
 
--- torn is what the code has of the run: whether a list is a broken one.
-module _ (a b : StrandBytes) (listed : Bool) (run : List ℕ) (before : RecordArrays) {n : ℕ} {torn : Bool} (t : torn ≡ (listed && not (is_run run))) (e : n ≡ refusal (early_faults (byte_counts a) (byte_counts b) torn)) where
-  abbrev refused : ℕ
-  refused = bytes_refused (seen a) (seen b) listed run before
+neither_row : {x : Unit {0}} (p l : Bool) → answer (two_rows p l None) (tt {0}) ≡ Ok x → (p ≡ false) × (l ≡ false)
+neither_row {x} true l e = absurd (no e)
+  where
+    no : ◌≡◌ {A = Result (Unit {0}) Refusal} (Err Broken) (Ok x) → ⊥
+    no q = cc
+neither_row {x} false true e = absurd (no e)
+  where
+    no : ◌≡◌ {A = Result (Unit {0}) Refusal} (Err TooLong) (Ok x) → ⊥
+    no q = cc
+neither_row false false e = (refl, refl)
 
-  abbrev kind : DuplexConsensus
-  kind = kind_of (strand_of (seen a)) (strand_of (seen b))
+or_false : (p q : Bool) → (p || (q || false)) ≡ (p || q)
+or_false true q = refl
+or_false false true = refl
+or_false false false = refl
 
-  same_broken : (misfit_in (byte_counts a) || (misfit_in (byte_counts b) || torn)) ≡ broken (seen a) (seen b) listed run
-  unfolding broken
-  same_broken =
-      let p = same_misfit a.present a.annotation a.bases a.quals a.depths a.errors a.evidence in
-      let q = same_misfit b.present b.annotation b.bases b.quals b.depths b.errors b.evidence in
-      ap (λ (x : Bool). x || (misfit_in (byte_counts b) || torn)) p
-      ∙ ap (λ (x : Bool). misfit (seen a) || (x || torn)) q
-      ∙ ap (λ (x : Bool). misfit (seen a) || (misfit (seen b) || x)) t
+or_true : (p q : Bool) → (p || (q || true)) ≡ true
+or_true true q = refl
+or_true false true = refl
+or_true false false = refl
 
-  same_early : (n ≡ 0 → ⊥) → n ≡ refused
-  unfolding early_faults bytes_faults duplex_faults given_faults refusal
-  same_early h =
-      let long : (long_in (byte_counts a) || long_in (byte_counts b)) ≡ (long_is (strand_of (seen a)) || long_is (strand_of (seen b))) =
-      ap (λ (x : Bool). x || long_in (byte_counts b)) (same_long a) ∙ ap (λ (x : Bool). long_is (strand_of (seen a)) || x) (same_long b) in
-      let number = e ∙ ap (λ (x : Bool). two_rows x (long_in (byte_counts a) || long_in (byte_counts b)) 0) same_broken ∙ ap (λ (l : Bool). two_rows (broken (seen a) (seen b) listed run) l 0) long in
-      number ∙ first_two (broken (seen a) (seen b) listed run) (long_is (strand_of (seen a)) || long_is (strand_of (seen b))) _ (λ z. h (number ∙ z))
+module _ (a b : Option EncodedStrand) (listed : Bool) (run : List ℕ) (before : RecordArrays) where
+  abbrev A : StrandBytes
+  A = seen (encoded_in a)
 
-  pub turned_down : (n ≡ 0 → ⊥) → BytesAs (seen a) (seen b) listed run before before (Refused n)
-  turned_down h = record { answered = answer_refused Refused kind (same_early h) h; outputs = record_refused (same_early h) h }
+  abbrev B : StrandBytes
+  B = seen (encoded_in b)
 
-  -- Row 13 refuses neither call.
-  same_made : n ≡ 0 → duplex_refused (strand_of (seen a)) (strand_of (seen b)) listed (length (reads_of run)) false before ≡ refused
-  unfolding early_faults bytes_faults duplex_faults given_faults refusal
-  same_made z =
-      let whole : broken (seen a) (seen b) listed run ≡ false = sym same_broken ∙ (passed Broken (early_faults (byte_counts a) (byte_counts b) torn) e z).0 in
-      rw whole
+  abbrev kind : Option DuplexConsensus
+  kind = kind_of (strand_of A) (strand_of B)
 
-  -- A and B are what was read.
-  pub passed_on :
-      {A B : Strand} {made : RecordArrays} {us : List ℕ} {count : ℕ} {r : DuplexConsensus}
-      → n ≡ 0
-      → A ≡ strand_within 1024 (read a)
-      → B ≡ strand_within 1024 (read b)
-      → count ≡ cond listed (length (reads_of run)) 0
-      → DuplexAs A B listed count false uncounted before made r
-      → us ≡ counted_errors (reads_of run) run (ct_input A.annotation B.annotation) (counted_positions listed r) A.arrays.bases A.arrays.quals B.arrays.bases B.arrays.quals made.errors
-      → BytesAs (seen a) (seen b) listed run before (with_errors us made) r
-  unfolding early_faults
-  passed_on {A} {B} {made} {us} {r = r} z p q c d u =
-      let (few_a, few_b) = nor_where (long_in (byte_counts a)) true (long_in (byte_counts b)) (passed TooLong (early_faults (byte_counts a) (byte_counts b) torn) e z).0 in
-      let As = Made listed run (length (reads_of run)) before (with_errors us made) r in
-      let at_a = subst (λ (s : Strand). As s B) (p ∙ all_read a few_a) (made_as A B listed run before made c d u) in
-      let at_b = subst (λ (s : Strand). As (strand_of (read a)) s) (q ∙ all_read b (few_b refl)) at_a in
-      let x = all_seen listed run (length (reads_of run)) before (with_errors us made) r a b at_b in
-      record { answered = x.answered ∙ ap (λ (m : ℕ). answer Refused m kind) (same_made z); outputs = rw (← same_made z) x.outputs }
+  -- Refused with a row.
+  down : (row : Refusal) → bytes_refused A B listed run before ≡ Some row → BytesAs A B listed run before before (Err row)
+  down row e = record {
+    answered = rw e;
+    outputs = subst (λ (x : Option Refusal). LeavesRecord x (bytes_record A B listed run) before before) (sym e) (record_refused row (bytes_record A B listed run) before);
+  }
+
+  pub torn_down : (listed && not (is_run run)) ≡ true → BytesAs A B listed run before before (Err Broken)
+  torn_down t =
+      let met : broken A B listed run ≡ true = rw t (or_true (misfit A) (misfit B)) in
+      down Broken (rw met)
+
+  -- The list's run is whole.
+  module _ (t : (listed && not (is_run run)) ≡ false) where
+    met_is : (misfit_in (encoded_in a) || misfit_in (encoded_in b)) ≡ broken A B listed run
+    met_is = rw (t, same_misfit a, same_misfit b) (sym (or_false (misfit A) (misfit B)))
+
+    long_is : (long_in (encoded_in a) || long_in (encoded_in b)) ≡ (long (given (strand_of A)) || long (given (strand_of B)))
+    long_is = rw (same_long (encoded_in a), same_long (encoded_in b))
+
+    pub turned_down : {row : Refusal} → answer (refused (early_faults (encoded_in a) (encoded_in b))) (tt {0}) ≡ Err row → BytesAs A B listed run before before (Err row)
+    turned_down {row} e = down row (first_two (broken A B listed run) (long (given (strand_of A)) || long (given (strand_of B))) _ (rw (met_is, long_is) at e))
+
+    module _ {x : Unit {0}} (e : answer (refused (early_faults (encoded_in a) (encoded_in b))) (tt {0}) ≡ Ok x) where
+      none_met : (broken A B listed run ≡ false) × ((long_in (encoded_in a) || long_in (encoded_in b)) ≡ false)
+      none_met =
+          let p = neither_row (misfit_in (encoded_in a) || misfit_in (encoded_in b)) (long_in (encoded_in a) || long_in (encoded_in b)) e in
+          (sym met_is ∙ p.0, p.1)
+
+      pub first_narrow : Narrow (looked_at (encoded_in a))
+      first_narrow = narrow a (neither (long_in (encoded_in a)) (long_in (encoded_in b)) none_met.1).0
+
+      pub second_narrow : Narrow (looked_at (encoded_in b))
+      second_narrow = narrow b (neither (long_in (encoded_in a)) (long_in (encoded_in b)) none_met.1).1
+
+      same_refused : duplex_refused (strand_of A) (strand_of B) listed (length (reads_of run)) false before ≡ bytes_refused A B listed run before
+      same_refused = rw none_met.0
+
+      pub passed_on : {now : RecordArrays} {r : Result (Option DuplexConsensus) Refusal} → DuplexAs (strand_of A) (strand_of B) listed (length (reads_of run)) false (run_errors (strand_of A) (strand_of B) run) before now r → BytesAs A B listed run before now r
+      passed_on {now} d = record {
+        answered = d.answered ∙ ap (λ (m : Option Refusal). answer m kind) same_refused;
+        outputs = subst (λ (m : Option Refusal). LeavesRecord m (bytes_record A B listed run) before now) same_refused d.outputs;
+      }

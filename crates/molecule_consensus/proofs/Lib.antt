@@ -1,4 +1,4 @@
-pub mod Absent
 pub mod Ample
 pub mod Bytes
 pub mod Few
+pub mod Made

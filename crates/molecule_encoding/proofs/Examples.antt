@@ -4,11 +4,11 @@ use Rattle.lists.specs.Every.{every}
 use Rattle.lists.specs.Table.{tabulate}
 use Rattle.fields.specs.Encoding.{front, fields_within, fields_of}
 use Rattle.molecule_fields.specs.Widths.{known_tag, length_fits, marks, bits_fit, well_formed}
-use Rattle.molecule_encoding.specs.Format.{follows, ascend_after, has, whole_strand, annotated_strand, announced, valid, accepted, span_from, strand_of, reads_after, molecule, decoded}
+use Rattle.molecule_encoding.specs.Format.{follows, ascend_after, has, whole_strand, annotated_strand, announced, valid, accepted, value_of, place_from, strand_of, molecule, decoded}
 use Rattle.molecule_encoding.specs.Small.{Small}
 
 pub small : Small
-unfolding front fields_within fields_of every known_tag length_fits tabulate marks bits_fit well_formed follows ascend_after has whole_strand annotated_strand announced valid accepted span_from strand_of reads_after molecule decoded
+unfolding front fields_within fields_of every known_tag length_fits tabulate marks bits_fit well_formed follows ascend_after has whole_strand annotated_strand announced valid accepted value_of place_from strand_of molecule decoded
 small = record {
   no_bytes = refl;
   no_thresholds = refl;

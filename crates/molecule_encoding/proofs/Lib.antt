@@ -1,5 +1,5 @@
 pub mod Order
-pub mod Spans
+pub mod Values
 pub mod Accepted
 pub mod Claims
 pub mod Parts

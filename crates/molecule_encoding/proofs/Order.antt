@@ -4,6 +4,7 @@
 --     fit_rest     where all fit, those after the first do
 -- Assumes nothing.
 use mathlib.Core.Path.{◌≡◌, refl, sym, ap, ◌∙◌}
+use Rattle.std.proofs.Common.{None, Ok, Err}
 use mathlib.Core.Bool.{Bool, true, false, not, ◌&&◌, ◌||◌, true≢false}
 use mathlib.Core.List.{List, [], ◌∷◌}
 use Prim.Native.Nat.{ℕ, ◌+◌, ◌≤◌, ◌<◌}
@@ -15,7 +16,7 @@ use Rattle.lists.specs.Every.{every}
 use Rattle.refusals.proofs.Condition.{both_hold}
 use Rattle.fields.specs.Encoding.{Field, Fields, whole_fields, cut_field, next_field, field_at}
 use Rattle.fields.specs.declared.FieldAt.{FieldAt}
-use Rattle.fields.specs.declared.NextField.TheVariants.{End, Cut}
+use Rattle.refusals.specs.declared.Refusal.{Refusal}
 use Rattle.fields.proofs.Walk.{BeginsAt, at_end, at_cut}
 use Rattle.molecule_fields.specs.Widths.{well_formed}
 use Rattle.molecule_encoding.specs.Format.{follows, ascend_after, ascending, fields_fit}
@@ -75,11 +76,11 @@ abbrev fitting : ℕ → Fields → Bool
 fitting last x = not x.cut_one && (ascend_after last x.whole_ones && every well_formed x.whole_ones)
 
 module _ (bytes : List ℕ) (at last : ℕ) where
-  pub fit_end : next_field bytes at ≡ End → fields_fit last (drop at bytes) ≡ true
+  pub fit_end : next_field bytes at ≡ Ok None → fields_fit last (drop at bytes) ≡ true
   unfolding fields_fit ascend_after every
   fit_end e = ap (fitting last) (at_end bytes at e)
 
-  pub fit_cut : next_field bytes at ≡ Cut → fields_fit last (drop at bytes) ≡ false
+  pub fit_cut : {refusal : Refusal} → next_field bytes at ≡ Err refusal → fields_fit last (drop at bytes) ≡ false
   unfolding fields_fit
   fit_cut e = ap (fitting last) (at_cut bytes at e)
 

@@ -7,24 +7,23 @@ use mathlib.Core.Path.{◌≡◌, refl, sym, ap, ◌∙◌}
 use mathlib.Core.Logic.{◌⊎◌, inl, inr, ⊎_elim}
 use mathlib.Core.Bool.{Bool, true, false, cond, not, ◌&&◌, ◌||◌, true≢false}
 use mathlib.Core.List.{List, [], ◌∷◌}
-use Prim.Native.Nat.{ℕ, ◌+◌, ◌-◌, ◌≤◌}
+use Prim.Native.Nat.{ℕ, ◌+◌, ◌≤◌}
 use native.Mathlib.Omega.{arith}
-use borrow.Author.Tests.{ltb-true, leb-true, eqb-true, le-ltb, eq-eqb, ne_eqb}
+use borrow.Author.Tests.{ltb-true, leb-true, eqb-true, eq-eqb, ne_eqb}
 use lib.Dec.{eqb, ltb, leb}
-use lib.ListN.{length, drop, length-drop, length-append}
-use lib.Seq.{take_all, drop-append_seam, drop-append-add}
+use lib.ListN.{length, drop, length-append}
+use lib.Seq.{drop-append_seam, drop-append-add}
 use Rattle.lists.specs.Every.{every}
-use Rattle.lists.specs.Part.{leaves, part}
 use Rattle.refusals.proofs.Condition.{both_hold, neither}
-use Rattle.fields.specs.Encoding.{Field, encoded_field, encoded, Short, Fields, fields, fields_of, whole_fields}
-use Rattle.fields.proofs.Fields.{read_back}
-use Rattle.molecule_fields.specs.Widths.{strand_tag, known_tag, length_fits, bits_fit, well_formed, is_read}
-use Rattle.molecule_encoding.specs.Format.{follows, ascend_after, ascending, has, valid, whole_strand, annotated_strand, announced, absent, span_from, span_of, strand_of, reads_after, molecule, value_at}
-use Rattle.molecule_encoding.specs.Claims.{EncodesMolecule, with_tag, PartIs, Holds}
-use Rattle.molecule_encoding.specs.declared.Span.{Span}
-use Rattle.molecule_encoding.proofs.Spans.{past, span_present}
-use Rattle.molecule_encoding.proofs.Accepted.{reads_present}
-use Rattle.molecule_encoding.proofs.Claims.{absent_value, span_value, accepts}
+use Rattle.fields.specs.Encoding.{Field, encoded_field, encoded, Short}
+use Rattle.molecule_fields.specs.Widths.{implies, strand_tag, known_tag, length_fits, bits_fit, well_formed, is_read}
+use Rattle.molecule_encoding.specs.Format.{StrandParts, follows, ascend_after, ascending, all_or_none, has, valid, whole_strand, annotated_strand, announced, value_of, place_from, place_of, strand_by, strand_of, bytes_after, reads_after, molecule}
+use Rattle.molecule_encoding.specs.Claims.{EncodesMolecule, part_of, with_tag, StrandIs, Holds}
+use Rattle.molecule_encoding.proofs.Values.{past, place_there, value_there}
+use Rattle.molecule_encoding.proofs.Claims.{accepts}
+use Rattle.fields.specs.declared.FieldAt.{FieldAt}
+use Rattle.std.proofs.Common.{Option, Some, None, unwrap_or}
+use Rattle.std.specs.Prelude.{is_some}
 
 either : (a b : Bool) → (a || b) ≡ true → (a ≡ true) ⊎ (b ≡ true)
 either true b e = inl refl
@@ -77,14 +76,15 @@ all_tagged (f ∷ fs) e =
     let (tagged, sized) = both_hold (eqb f.tag 0x30) (leb 2 (length f.value)) here in
     rw (tagged, all_tagged fs later)
 
--- What a marker is that is looked for from a place on, and where it ends.
-abbrev end : Span → ℕ
-end s = s.offset + s.length
+-- Where a field ends that is looked for from a place on.
+abbrev end : Option FieldAt → ℕ
+end None = 0
+end (Some f) = f.offset + f.length
 
 -- Where fields that fit have the marker, what is encoded after it is the fields 30, and no others.
 pub record Following (at : ℕ) (fs : List Field) : Type 0 where
   pub skipped : ℕ
-  pub ends : end (span_from at 0x2f fs) ≡ at + skipped
+  pub ends : end (place_from at 0x2f fs) ≡ at + skipped
   pub within : skipped ≤ length (encoded fs)
   pub rest : drop skipped (encoded fs) ≡ encoded (with_tag 0x30 fs)
 
@@ -93,7 +93,7 @@ unfolding encoded_field
 field_size f = omega arith
 
 following : (at last : ℕ) (fs : List Field) → ascend_after last fs ≡ true → every well_formed fs ≡ true → has 0x2f fs ≡ true → Following at fs
-unfolding ascend_after every has span_from encoded with_tag
+unfolding ascend_after every has place_from encoded with_tag
 following at last [] a w h = absurd (true≢false (sym h))
 following at last (f ∷ fs) a w h =
     let (fol, asc) = both_hold (follows last f.tag) (ascend_after f.tag fs) a in
@@ -121,8 +121,8 @@ following at last (f ∷ fs) a w h =
     go false t h asc later then =
         let next = then h in
         let other : eqb f.tag 0x30 ≡ false = ne_eqb f.tag 0x30 (λ e.
-        let gone : span_from 0 0x2f fs ≡ absent = past f.tag 0x2f 0 fs (omega arith) asc in
-        true≢false (sym h ∙ sym (span_present 0 0x2f fs) ∙ ap (λ (s : Span). s.present) gone)) in
+        let gone : place_from 0 0x2f fs ≡ None = past f.tag 0x2f 0 fs (omega arith) asc in
+        true≢false (sym h ∙ sym (place_there 0 0x2f fs) ∙ ap (λ (s : Option FieldAt). is_some s) gone)) in
         record {
           skipped = length (encoded_field f) + next.skipped;
           ends = rw t (omega (arith, field_size f, next.ends));
@@ -198,56 +198,68 @@ tagged_short (f ∷ fs) s = go (eqb f.tag 0x30) s (tagged_short fs s.1)
     go true s rest = (s.0, rest)
     go false s rest = rest
 
-module _ (bytes : List ℕ) where
-  all_after : (s : Span) → end s ≤ length bytes → s.present ≡ true → value_at bytes (reads_after (length bytes) s) ≡ drop (end s) bytes
-  unfolding reads_after part leaves
-  all_after s h p =
-      let whole : end s + (length bytes - end s) ≤ length bytes = omega arith in
-      let left : length (drop (end s) bytes) ≤ length bytes - end s = simp length-drop (omega arith) in
-      rw (p, le-ltb _ _ whole) (take_all (length bytes - end s) (drop (end s) bytes) left)
+-- All that stands after the end of a field that is there.
+after_is : (bytes : List ℕ) (s : Option FieldAt) → is_some s ≡ true → unwrap_or (bytes_after bytes s) [] ≡ drop (end s) bytes
+after_is bytes (Some f) p = refl
+after_is bytes None p = absurd (true≢false (sym p))
 
-  none_after : (s : Span) → s.present ≡ false → value_at bytes (reads_after (length bytes) s) ≡ []
-  unfolding reads_after
-  none_after s p = rw p (absent_value bytes)
+none_after : (bytes : List ℕ) (s : Option FieldAt) → is_some s ≡ false → unwrap_or (bytes_after bytes s) [] ≡ []
+none_after bytes (Some f) p = absurd (true≢false p)
+none_after bytes None p = refl
 
-  module _ (fs : List Field) (x : EncodesMolecule bytes fs) where
-    pub whole_are : whole_fields bytes ≡ fs
-    whole_are =
-        let are : fields_of bytes ≡ fields fs false = rw x.encodes.bytes_are (read_back fs x.encodes.short) in
-        ap (λ (y : Fields). y.whole_ones) are
+after_there : (bytes : List ℕ) (s : Option FieldAt) → is_some (bytes_after bytes s) ≡ is_some s
+after_there bytes (Some f) = refl
+after_there bytes None = refl
 
-    part_is : (tag : ℕ) → PartIs bytes fs tag (span_of tag fs)
-    part_is tag = record { there = span_present 0 tag fs; value = rw whole_are at (span_value bytes tag) }
+module _ (bytes : List ℕ) (fs : List Field) (x : EncodesMolecule bytes fs) where
+  reads_are : unwrap_or (reads_after bytes fs) [] ≡ encoded (with_tag 0x30 fs)
+  reads_are = go (has 0x2f fs) refl
+    where
+      go : (b : Bool) → has 0x2f fs ≡ b → unwrap_or (reads_after bytes fs) [] ≡ encoded (with_tag 0x30 fs)
+      go true h =
+          let next = following 0 0 fs (in_order fs x.is_valid) (all_fit fs x.is_valid) h in
+          let ends : end (place_of 0x2f fs) ≡ next.skipped = omega (arith, next.ends) in
+          after_is bytes (place_of 0x2f fs) (place_there 0 0x2f fs ∙ h) ∙ rw (ends, x.encodes.bytes_are) next.rest
+      go false h =
+          none_after bytes (place_of 0x2f fs) (place_there 0 0x2f fs ∙ h) ∙ unfold encoded in rw (no_reads fs x.is_valid h)
 
-    reads_are : value_at bytes (reads_after (length bytes) (span_of 0x2f fs)) ≡ encoded (with_tag 0x30 fs)
-    reads_are = go (has 0x2f fs) refl
-      where
-        go : (b : Bool) → has 0x2f fs ≡ b → value_at bytes (reads_after (length bytes) (span_of 0x2f fs)) ≡ encoded (with_tag 0x30 fs)
-        go true h =
-            let next = following 0 0 fs (in_order fs x.is_valid) (all_fit fs x.is_valid) h in
-            let ends : end (span_of 0x2f fs) ≡ next.skipped = omega (arith, next.ends) in
-            let size : length bytes ≡ length (encoded fs) = ap length x.encodes.bytes_are in
-            all_after (span_of 0x2f fs) (omega (arith, next.within)) (span_present 0 0x2f fs ∙ h) ∙ rw (ends, x.encodes.bytes_are) next.rest
-        go false h =
-            none_after (span_of 0x2f fs) (span_present 0 0x2f fs ∙ h) ∙ unfold encoded in rw (no_reads fs x.is_valid h)
+-- A strand's parts are its fields, where it has all of them or none.
+module _ (fs : List Field) (first : ℕ) where
+  abbrev Is : Option (List ℕ) → Option (List ℕ) → Option (List ℕ) → Option (List ℕ) → Option (List ℕ) → Type 0
+  Is b q d e a =
+      (part_of (λ (x : StrandParts). Some x.bases) (strand_by b q d e a) ≡ b)
+      × (part_of (λ (x : StrandParts). Some x.quals) (strand_by b q d e a) ≡ q)
+      × (part_of (λ (x : StrandParts). Some x.depths) (strand_by b q d e a) ≡ d)
+      × (part_of (λ (x : StrandParts). Some x.errors) (strand_by b q d e a) ≡ e)
+      × (part_of (λ (x : StrandParts). x.annotation) (strand_by b q d e a) ≡ a)
+
+  fields_are : (b q d e a : Option (List ℕ)) → all_or_none (is_some b) (is_some q) (is_some d) (is_some e) ≡ true → implies (is_some a) (is_some b) ≡ true → Is b q d e a
+  fields_are (Some b) (Some q) (Some d) (Some e) a h i = (refl, refl, refl, refl, refl)
+  fields_are (Some b) (Some q) (Some d) None a h i = absurd (true≢false (sym h))
+  fields_are (Some b) (Some q) None e a h i = absurd (true≢false (sym h))
+  fields_are (Some b) None d e a h i = absurd (true≢false (sym h))
+  fields_are None (Some q) d e a h i = absurd (true≢false (sym h))
+  fields_are None None (Some d) e a h i = absurd (true≢false (sym h))
+  fields_are None None None (Some e) a h i = absurd (true≢false (sym h))
+  fields_are None None None None (Some a) h i = absurd (true≢false (sym i))
+  fields_are None None None None None h i = (refl, refl, refl, refl, refl)
+
+  strand_holds : (whole_strand first fs && annotated_strand first fs) ≡ true → StrandIs fs first (strand_of first fs)
+  unfolding strand_of whole_strand annotated_strand
+  strand_holds v =
+      let (w, a) = both_hold (whole_strand first fs) (annotated_strand first fs) v in
+      let p = fields_are (value_of first fs) (value_of (first + 1) fs) (value_of (first + 2) fs) (value_of (first + 3) fs) (value_of (first + 4) fs) (simp value_there w) (simp value_there a) in
+      record { bases = p.0; quals = p.1; depths = p.2; errors = p.3; annotation = p.4 }
 
 pub holds : Holds
-unfolding molecule strand_of
+unfolding molecule
 holds bytes fs m x e =
-    let is : m ≡ molecule (length bytes) fs = cc (accepts bytes fs x) in
+    let is : m ≡ molecule bytes fs = cc (accepts bytes fs x) in
     rw is
     (record {
-      thresholds = part_is bytes fs x 0x01;
-      a_bases = part_is bytes fs x 0x10;
-      a_quals = part_is bytes fs x 0x11;
-      a_depths = part_is bytes fs x 0x12;
-      a_errors = part_is bytes fs x 0x13;
-      a_annotation = part_is bytes fs x 0x14;
-      b_bases = part_is bytes fs x 0x20;
-      b_quals = part_is bytes fs x 0x21;
-      b_depths = part_is bytes fs x 0x22;
-      b_errors = part_is bytes fs x 0x23;
-      b_annotation = part_is bytes fs x 0x24;
-      listed = reads_present (length bytes) (span_of 0x2f fs) ∙ span_present 0 0x2f fs;
+      thresholds = refl;
+      a = strand_holds fs 0x10 (a_whole fs x.is_valid);
+      b = strand_holds fs 0x20 (b_whole fs x.is_valid);
+      listed = after_there bytes (place_of 0x2f fs) ∙ place_there 0 0x2f fs;
       reads = reads_are bytes fs x;
     })

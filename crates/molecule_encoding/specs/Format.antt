@@ -1,15 +1,12 @@
--- The encoding of a molecule, the tray of document 01: which fields it has together and in which order, and where the parts of the
--- molecule are in its bytes. A field by itself is in molecule_fields.
-use Rattle.std.specs.Prelude.{ℕ, ◌+◌, ◌-◌, Bool, true, false, cond, not, ◌&&◌, ◌||◌, List, [], ◌∷◌, eqb, ltb, leb, length}
+-- The encoding of a molecule, the tray of document 01: which fields it has together and in which order, and what the parts of the
+-- molecule are. A field by itself is in molecule_fields.
+use Rattle.std.specs.Prelude.{ℕ, ◌+◌, Bool, true, false, cond, not, ◌&&◌, ◌||◌, Option, Some, None, Result, Ok, Err, List, [], ◌∷◌, eqb, ltb, leb, length, drop, is_some}
 use Rattle.lists.specs.Every.{every}
-use Rattle.lists.specs.Part.{part}
 use Rattle.fields.specs.Encoding.{Field, whole_fields, cut_field}
+use Rattle.fields.specs.declared.FieldAt.{FieldAt}
+use Rattle.refusals.specs.declared.Refusal.{Refusal}
+use Rattle.refusals.specs.declared.Refusal.TheVariants.{Broken}
 use Rattle.molecule_fields.specs.Widths.{implies, well_formed}
-use Rattle.molecule_encoding.specs.declared.Span.{Span}
-use Rattle.molecule_encoding.specs.declared.StrandFields.{StrandFields}
-use Rattle.molecule_encoding.specs.declared.Molecule.{Molecule}
-use Rattle.molecule_encoding.specs.declared.Decoded.{Decoded}
-use Rattle.molecule_encoding.specs.declared.Decoded.TheVariants.{Refused, Of}
 
 -- A tag comes after another: it is above it, or both are reads.
 unfoldable pub follows : ℕ → ℕ → Bool
@@ -60,54 +57,65 @@ most_bytes = 65536
 unfoldable pub accepted : List ℕ → Bool
 accepted bytes = leb (length bytes) most_bytes && (not (cut_field bytes) && valid (whole_fields bytes))
 
-abbrev pub absent : Span
-absent = record { present = false; offset = 0; length = 0 }
+-- The value of the field with a tag, where there is one.
+unfoldable pub value_of : ℕ → List Field → Option (List ℕ)
+value_of tag [] = None
+value_of tag (f ∷ fs) = cond (eqb f.tag tag) (Some f.value) (value_of tag fs)
 
-abbrev pub span : ℕ → ℕ → Span
-span offset n = record { present = true; offset = offset; length = n }
+-- A strand: the values of its fields.
+pub record StrandParts : Type 0 where
+  pub bases : List ℕ
+  pub quals : List ℕ
+  pub depths : List ℕ
+  pub errors : List ℕ
+  pub annotation : Option (List ℕ)
+
+-- The parts of a molecule that are there.
+pub record MoleculeParts : Type 0 where
+  pub thresholds : Option (List ℕ)
+  pub a : Option StrandParts
+  pub b : Option StrandParts
+  pub reads : Option (List ℕ)
+
+-- A strand by its fields. It is there where its first four are.
+abbrev pub strand_by : Option (List ℕ) → Option (List ℕ) → Option (List ℕ) → Option (List ℕ) → Option (List ℕ) → Option StrandParts
+strand_by (Some bases) (Some quals) (Some depths) (Some errors) annotation = Some (record { bases = bases; quals = quals; depths = depths; errors = errors; annotation = annotation })
+strand_by _ _ _ _ _ = None
+
+unfoldable pub strand_of : ℕ → List Field → Option StrandParts
+strand_of first fs = strand_by (value_of first fs) (value_of (first + 1) fs) (value_of (first + 2) fs) (value_of (first + 3) fs) (value_of (first + 4) fs)
 
 -- Where the value of the field with a tag is, of fields whose bytes begin at a place.
-unfoldable pub span_from : ℕ → ℕ → List Field → Span
-span_from at tag [] = absent
-span_from at tag (f ∷ fs) = cond (eqb f.tag tag) (span (at + 3) (length f.value)) (span_from (at + 3 + length f.value) tag fs)
+unfoldable pub place_from : ℕ → ℕ → List Field → Option FieldAt
+place_from at tag [] = None
+place_from at tag (f ∷ fs) =
+    cond (eqb f.tag tag) (Some (record { tag = f.tag; offset = at + 3; length = length f.value }))
+    (place_from (at + 3 + length f.value) tag fs)
 
-abbrev pub span_of : ℕ → List Field → Span
-span_of tag fs = span_from 0 tag fs
+abbrev pub place_of : ℕ → List Field → Option FieldAt
+place_of tag fs = place_from 0 tag fs
 
-unfoldable pub strand_of : ℕ → List Field → StrandFields
-strand_of first fs = record {
-  bases = span_of first fs;
-  quals = span_of (first + 1) fs;
-  depths = span_of (first + 2) fs;
-  errors = span_of (first + 3) fs;
-  annotation = span_of (first + 4) fs;
-}
+-- All bytes after a field, where there is one.
+abbrev pub bytes_after : List ℕ → Option FieldAt → Option (List ℕ)
+bytes_after bytes None = None
+bytes_after bytes (Some f) = Some (drop (f.offset + f.length) bytes)
 
--- All bytes after the list's marker, where there is one.
-unfoldable pub reads_after : ℕ → Span → Span
-reads_after size marker = cond marker.present (span (marker.offset + marker.length) (size - (marker.offset + marker.length))) absent
+-- All bytes after the list's marker.
+abbrev pub reads_after : List ℕ → List Field → Option (List ℕ)
+reads_after bytes fs = bytes_after bytes (place_of 0x2f fs)
 
--- The molecule of some fields, whose bytes are so many.
-unfoldable pub molecule : ℕ → List Field → Molecule
-molecule size fs = record {
-  thresholds = span_of 0x01 fs;
+-- The molecule of some fields, which are some bytes.
+unfoldable pub molecule : List ℕ → List Field → MoleculeParts
+molecule bytes fs = record {
+  thresholds = value_of 0x01 fs;
   a = strand_of 0x10 fs;
   b = strand_of 0x20 fs;
-  reads = reads_after size (span_of 0x2f fs);
+  reads = reads_after bytes fs;
 }
 
 -- What the reader answers.
-unfoldable pub decoded : List ℕ → Decoded
-decoded bytes = cond (accepted bytes) (Of (molecule (length bytes) (whole_fields bytes))) (Refused 13)
-
--- The value of the field with a tag.
-unfoldable pub value_of : ℕ → List Field → List ℕ
-value_of tag [] = []
-value_of tag (f ∷ fs) = cond (eqb f.tag tag) f.value (value_of tag fs)
-
--- The part of some bytes at a place.
-abbrev pub value_at : List ℕ → Span → List ℕ
-value_at bytes s = part s.offset s.length bytes
+unfoldable pub decoded : List ℕ → Result MoleculeParts Refusal
+decoded bytes = cond (accepted bytes) (Ok (molecule bytes (whole_fields bytes))) (Err Broken)
 
 -- For the functions below the reader.
 
@@ -115,10 +123,19 @@ value_at bytes s = part s.offset s.length bytes
 unfoldable pub fields_fit : ℕ → List ℕ → Bool
 fields_fit last bytes = not (cut_field bytes) && (ascend_after last (whole_fields bytes) && every well_formed (whole_fields bytes))
 
--- The two conditions on a strand, by which of its fields are there.
-unfoldable pub strand_fits : StrandFields → Bool
-strand_fits s = all_or_none s.bases.present s.quals.present s.depths.present s.errors.present && implies s.annotation.present s.bases.present
+-- A strand by its fields, or the refusal: it has all of its first four fields or none, and an annotation only with them.
+abbrev pub strand_test : Option (List ℕ) → Option (List ℕ) → Option (List ℕ) → Option (List ℕ) → Option (List ℕ) → Result (Option StrandParts) Refusal
+strand_test (Some bases) (Some quals) (Some depths) (Some errors) annotation = Ok (Some (record { bases = bases; quals = quals; depths = depths; errors = errors; annotation = annotation }))
+strand_test None None None None None = Ok None
+strand_test _ _ _ _ _ = Err Broken
 
--- The conditions on a molecule's fields together, where there are reads or none.
-unfoldable pub complete : Molecule → Bool → Bool
-complete m reads = strand_fits m.a && (strand_fits m.b && implies reads m.reads.present)
+abbrev pub strand_read : ℕ → List Field → Result (Option StrandParts) Refusal
+strand_read first fs = strand_test (value_of first fs) (value_of (first + 1) fs) (value_of (first + 2) fs) (value_of (first + 3) fs) (value_of (first + 4) fs)
+
+-- The reads, or the refusal of reads without a list.
+abbrev pub reads_test : List ℕ → Option FieldAt → Option FieldAt → Result (Option (List ℕ)) Refusal
+reads_test bytes (Some marker) read = Ok (bytes_after bytes (Some marker))
+reads_test bytes None read = cond (is_some read) (Err Broken) (Ok None)
+
+abbrev pub reads_read : List ℕ → Result (Option (List ℕ)) Refusal
+reads_read bytes = reads_test bytes (place_of 0x2f (whole_fields bytes)) (place_of 0x30 (whole_fields bytes))

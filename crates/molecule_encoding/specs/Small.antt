@@ -1,42 +1,37 @@
 -- Small encoded molecules, and bytes that are none, document 01's tray: a row for each cause of 13 that a few bytes can show and for
 -- each edge of the format. All compute.
-use Rattle.std.specs.Prelude.{◌≡◌, ℕ, ◌+◌, List, [], ◌∷◌, ◌++◌}
-use Rattle.molecule_encoding.specs.Format.{absent, span, decoded}
-use Rattle.molecule_encoding.specs.declared.Span.{Span}
-use Rattle.molecule_encoding.specs.declared.StrandFields.{StrandFields}
-use Rattle.molecule_encoding.specs.declared.Decoded.{Decoded}
-use Rattle.molecule_encoding.specs.declared.Decoded.TheVariants.{Refused, Of}
+use Rattle.std.specs.Prelude.{◌≡◌, ℕ, Option, Some, None, Result, Ok, Err, List, [], ◌∷◌, ◌++◌}
+use Rattle.refusals.specs.declared.Refusal.{Refusal}
+use Rattle.refusals.specs.declared.Refusal.TheVariants.{Broken}
+use Rattle.molecule_encoding.specs.Format.{StrandParts, MoleculeParts, decoded}
 
-abbrev pub no_strand : StrandFields
-no_strand = record { bases = absent; quals = absent; depths = absent; errors = absent; annotation = absent }
+abbrev pub of : Option (List ℕ) → Option StrandParts → Option StrandParts → Option (List ℕ) → Result MoleculeParts Refusal
+of thresholds a b reads = Ok (record { thresholds = thresholds; a = a; b = b; reads = reads })
 
-abbrev pub of : Span → StrandFields → StrandFields → Span → Decoded
-of thresholds a b reads = Of (record { thresholds = thresholds; a = a; b = b; reads = reads })
-
-abbrev pub no : Decoded
-no = Refused 13
+abbrev pub no : Result MoleculeParts Refusal
+no = Err Broken
 
 -- Fields with these tags, each empty.
 abbrev pub empty : List ℕ → List ℕ
 empty [] = []
 empty (tag ∷ tags) = tag ∷ 0 ∷ 0 ∷ empty tags
 
--- The first four fields of a strand, each empty, whose first value is at a place.
-abbrev pub empty_strand : ℕ → Span → StrandFields
-empty_strand at annotation = record { bases = span at 0; quals = span (at + 3) 0; depths = span (at + 6) 0; errors = span (at + 9) 0; annotation = annotation }
+-- A strand of no positions.
+abbrev pub empty_strand : Option (List ℕ) → Option StrandParts
+empty_strand annotation = Some (record { bases = []; quals = []; depths = []; errors = []; annotation = annotation })
 
 pub record Small : Type 0 where
   -- Molecules.
-  pub no_bytes : decoded [] ≡ of absent no_strand no_strand absent
-  pub no_thresholds : decoded (0x01 ∷ 0 ∷ 0 ∷ []) ≡ of (span 3 0) no_strand no_strand absent
-  pub one_threshold : decoded (0x01 ∷ 4 ∷ 0 ∷ 1 ∷ 0 ∷ 0 ∷ 0 ∷ []) ≡ of (span 3 4) no_strand no_strand absent
-  pub a_of_none : decoded (empty (0x10 ∷ 0x11 ∷ 0x12 ∷ 0x13 ∷ [])) ≡ of absent (empty_strand 3 absent) no_strand absent
-  pub b_of_none : decoded (empty (0x20 ∷ 0x21 ∷ 0x22 ∷ 0x23 ∷ [])) ≡ of absent no_strand (empty_strand 3 absent) absent
-  pub both_of_none : decoded (empty (0x10 ∷ 0x11 ∷ 0x12 ∷ 0x13 ∷ 0x20 ∷ 0x21 ∷ 0x22 ∷ 0x23 ∷ 0x2f ∷ [])) ≡ of absent (empty_strand 3 absent) (empty_strand 15 absent) (span 27 0)
-  pub annotation_of_none : decoded (empty (0x10 ∷ 0x11 ∷ 0x12 ∷ 0x13 ∷ []) ++ 0x14 ∷ 1 ∷ 0 ∷ 1 ∷ []) ≡ of absent (empty_strand 3 (span 15 1)) no_strand absent
-  pub marked : decoded (empty (0x20 ∷ 0x21 ∷ 0x22 ∷ 0x23 ∷ []) ++ 0x24 ∷ 10 ∷ 0 ∷ 0 ∷ 1 ∷ 2 ∷ 0 ∷ 0 ∷ 0 ∷ 2 ∷ 0 ∷ 0 ∷ 0 ∷ []) ≡ of absent no_strand (empty_strand 3 (span 15 10)) absent
-  pub empty_list : decoded (empty (0x2f ∷ [])) ≡ of absent no_strand no_strand (span 3 0)
-  pub two_reads : decoded (0x2f ∷ 0 ∷ 0 ∷ 0x30 ∷ 2 ∷ 0 ∷ 77 ∷ 0 ∷ 0x30 ∷ 3 ∷ 0 ∷ 0 ∷ 0 ∷ 65 ∷ []) ≡ of absent no_strand no_strand (span 3 11)
+  pub no_bytes : decoded [] ≡ of None None None None
+  pub no_thresholds : decoded (0x01 ∷ 0 ∷ 0 ∷ []) ≡ of (Some []) None None None
+  pub one_threshold : decoded (0x01 ∷ 4 ∷ 0 ∷ 1 ∷ 0 ∷ 0 ∷ 0 ∷ []) ≡ of (Some (1 ∷ 0 ∷ 0 ∷ 0 ∷ [])) None None None
+  pub a_of_none : decoded (empty (0x10 ∷ 0x11 ∷ 0x12 ∷ 0x13 ∷ [])) ≡ of None (empty_strand None) None None
+  pub b_of_none : decoded (empty (0x20 ∷ 0x21 ∷ 0x22 ∷ 0x23 ∷ [])) ≡ of None None (empty_strand None) None
+  pub both_of_none : decoded (empty (0x10 ∷ 0x11 ∷ 0x12 ∷ 0x13 ∷ 0x20 ∷ 0x21 ∷ 0x22 ∷ 0x23 ∷ 0x2f ∷ [])) ≡ of None (empty_strand None) (empty_strand None) (Some [])
+  pub annotation_of_none : decoded (empty (0x10 ∷ 0x11 ∷ 0x12 ∷ 0x13 ∷ []) ++ 0x14 ∷ 1 ∷ 0 ∷ 1 ∷ []) ≡ of None (empty_strand (Some (1 ∷ []))) None None
+  pub marked : decoded (empty (0x20 ∷ 0x21 ∷ 0x22 ∷ 0x23 ∷ []) ++ 0x24 ∷ 10 ∷ 0 ∷ 0 ∷ 1 ∷ 2 ∷ 0 ∷ 0 ∷ 0 ∷ 2 ∷ 0 ∷ 0 ∷ 0 ∷ []) ≡ of None None (empty_strand (Some (0 ∷ 1 ∷ 2 ∷ 0 ∷ 0 ∷ 0 ∷ 2 ∷ 0 ∷ 0 ∷ 0 ∷ []))) None
+  pub empty_list : decoded (empty (0x2f ∷ [])) ≡ of None None None (Some [])
+  pub two_reads : decoded (0x2f ∷ 0 ∷ 0 ∷ 0x30 ∷ 2 ∷ 0 ∷ 77 ∷ 0 ∷ 0x30 ∷ 3 ∷ 0 ∷ 0 ∷ 0 ∷ 65 ∷ []) ≡ of None None None (Some (0x30 ∷ 2 ∷ 0 ∷ 77 ∷ 0 ∷ 0x30 ∷ 3 ∷ 0 ∷ 0 ∷ 0 ∷ 65 ∷ []))
   -- A cut field.
   pub cut_tag : decoded (0x2f ∷ []) ≡ no
   pub cut_length : decoded (0x2f ∷ 0 ∷ []) ≡ no

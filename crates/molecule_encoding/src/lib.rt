@@ -3,192 +3,149 @@
 // of the caller's bytes. Uses lists, refusals, fields and molecule_fields.
 #![tactic(auto)]
 
-ghost use Rattle.std.specs.Prelude.{◌≡◌, true, ◌+◌, ◌≤◌, length};
+ghost use Rattle.std.specs.Prelude.{◌≡◌, true, ◌+◌, ◌≤◌, not, length, IfSome};
 ghost use Rattle.fields.specs.Encoding.{whole_fields};
-ghost use Rattle.molecule_encoding.specs.Format.{follows, ascending, span_of, strand_of, strand_fits, reads_after, fields_fit, molecule, complete, decoded};
+ghost use Rattle.refusals.specs.Outcome.{refused_if};
+ghost use Rattle.molecule_encoding.specs.Format.{follows, ascending, place_of, value_of, strand_read, reads_read, fields_fit, decoded};
+ghost use Rattle.molecule_encoding.specs.Parts.{value_in, strand_in, reads_in, molecule_in};
 
-use fields::{NextField, next_field};
+use fields::{FieldAt, next_field};
+use lists::part;
 use molecule_fields::{READ, READ_LIST, STRAND_A, STRAND_B, THRESHOLDS, field_fits};
-use refusals::BROKEN;
+use refusals::{Refusal, refuse};
 
 // The most bytes of an encoded molecule.
 pub const MAX_BYTES: usize = 65536;
 
-// Where a field's value is in the bytes. An absent field's is empty.
+// The values of a strand's fields. Qualities and bases have a byte a position, depths and errors two. An annotation has a pattern byte,
+// 0 C to T, 1 G to A, then nine bytes a position: the mark, unconverted and converted.
 #[derive(Clone, Copy)]
-pub struct Span {
-    pub present: bool,
-    pub offset: usize,
-    pub length: usize,
+pub struct StrandFields<'a> {
+    pub bases: &'a [u8],
+    pub quals: &'a [u8],
+    pub depths: &'a [u8],
+    pub errors: &'a [u8],
+    pub annotation: Option<&'a [u8]>,
 }
 
-// Qualities and bases have a byte a position, depths and errors two. An annotation has a pattern byte, 0 C to T, 1 G to A, then
-// nine bytes a position: the mark, unconverted and converted.
+// The parts of a molecule that are there. The reads are a run of whole fields 30, to the end.
 #[derive(Clone, Copy)]
-pub struct StrandFields {
-    pub bases: Span,
-    pub quals: Span,
-    pub depths: Span,
-    pub errors: Span,
-    pub annotation: Span,
-}
-
-// A strand is present where its bases are. The reads are present where there is a list: a run of whole fields 30, to the end.
-#[derive(Clone, Copy)]
-pub struct Molecule {
-    pub thresholds: Span,
-    pub a: StrandFields,
-    pub b: StrandFields,
-    pub reads: Span,
-}
-
-#[derive(Clone, Copy)]
-pub enum Decoded {
-    // By 13.
-    Refused(u8),
-    Of(Molecule),
+pub struct Molecule<'a> {
+    pub thresholds: Option<&'a [u8]>,
+    pub a: Option<StrandFields<'a>>,
+    pub b: Option<StrandFields<'a>>,
+    pub reads: Option<&'a [u8]>,
 }
 
 // A tag comes after another: it is above it, or both are reads.
+#[tactic(auto, unfolding(crate::specs::Format::follows))]
 fn tag_follows(last: u8, tag: u8) -> bool
     ensures { result ≡ follows last tag }
 {
     (last < tag) | ((last == READ) & (tag == READ))
 }
 
-// Whether the bytes are whole fields, in order and each well-formed.
-fn fields_fit(bytes: &[u8]) -> bool
-    ensures { result ≡ fields_fit 0 bytes.now }
+// The bytes are whole fields, in order and each well-formed.
+fn check_fields(bytes: &[u8]) -> Result<(), Refusal>
+    ensures { result ≡ refused_if (not (fields_fit 0 bytes.now)) Refusal.Broken }
 {
     let mut last = 0;
     let mut at = 0;
-    loop {
-        match next_field(bytes, at) {
-            NextField::End => return true,
-            NextField::Cut => return false,
-            NextField::Whole(f) => {
-                if !(tag_follows(last, f.tag) & field_fits(bytes, f)) {
-                    return false;
-                }
-                last = f.tag;
-                at = f.offset + f.length;
-            }
+    while let Some(f) = next_field(bytes, at)? {
+        if !(tag_follows(last, f.tag) & field_fits(bytes, f)) {
+            return Err(Refusal::Broken);
         }
+        last = f.tag;
+        at = f.offset + f.length;
     }
+    Ok(())
 }
 
-const ABSENT: Span = Span {
-    present: false,
-    offset: 0,
-    length: 0,
-};
-
-// Where the value of a tag is. Tags ascend, so that none is looked for past it.
-fn find(bytes: &[u8], tag: u8) -> Span
+// The field with a tag. Tags ascend, so that none is looked for past it.
+fn find(bytes: &[u8], tag: u8) -> Option<FieldAt>
     requires { ascending (whole_fields bytes.now) ≡ true }
-    ensures value { result ≡ span_of tag (whole_fields bytes.now) }
-    ensures length_in_bounds { result.offset + result.length ≤ length bytes.now }
+    ensures place { result ≡ place_of tag (whole_fields bytes.now) }
+    ensures within { IfSome result (λ f. f.offset + f.length ≤ length bytes.now) }
 {
     let mut at = 0;
-    loop {
-        match next_field(bytes, at) {
-            NextField::End => return ABSENT,
-            NextField::Cut => return ABSENT,
-            NextField::Whole(f) => {
-                if f.tag == tag {
-                    return Span {
-                        present: true,
-                        offset: f.offset,
-                        length: f.length,
-                    };
-                }
-                if tag < f.tag {
-                    return ABSENT;
-                }
-                at = f.offset + f.length;
-            }
+    while let Ok(Some(f)) = next_field(bytes, at) {
+        if f.tag == tag {
+            return Some(f);
         }
+        if tag < f.tag {
+            return None;
+        }
+        at = f.offset + f.length;
+    }
+    None
+}
+
+// The value of the field with a tag.
+#[tactic(auto, using(crate::proofs::Values::value_placed))]
+fn value(bytes: &[u8], tag: u8) -> Option<&[u8]>
+    requires { ascending (whole_fields bytes.now) ≡ true }
+    ensures { value_in result ≡ value_of tag (whole_fields bytes.now) }
+{
+    match find(bytes, tag) {
+        Some(f) => Some(part(bytes, f.offset, f.length)),
+        None => None,
     }
 }
 
-fn strand_fields(bytes: &[u8], first: u8) -> StrandFields
+// A strand has all of its first four fields or none, and an annotation only with them.
+fn strand_fields(bytes: &[u8], first: u8) -> Result<Option<StrandFields<'_>>, Refusal>
     requires first_bound { first ≤ 0x20 }
     requires bytes_value { ascending (whole_fields bytes.now) ≡ true }
-    ensures { result ≡ strand_of first (whole_fields bytes.now) }
+    ensures { strand_in result ≡ strand_read first (whole_fields bytes.now) }
 {
-    StrandFields {
-        bases: find(bytes, first),
-        quals: find(bytes, first + 1),
-        depths: find(bytes, first + 2),
-        errors: find(bytes, first + 3),
-        annotation: find(bytes, first + 4),
+    let bases = value(bytes, first);
+    let quals = value(bytes, first + 1);
+    let depths = value(bytes, first + 2);
+    let errors = value(bytes, first + 3);
+    let annotation = value(bytes, first + 4);
+    match (bases, quals, depths, errors, annotation) {
+        (Some(bases), Some(quals), Some(depths), Some(errors), annotation) => {
+            Ok(Some(StrandFields {
+                bases,
+                quals,
+                depths,
+                errors,
+                annotation,
+            }))
+        }
+        (None, None, None, None, None) => Ok(None),
+        _ => Err(Refusal::Broken),
     }
 }
 
-// Whether a strand has all of its first four fields or none, and an annotation only with them.
-fn strand_fits(s: StrandFields) -> bool
-    ensures { result ≡ strand_fits s }
-{
-    let a = s.bases.present;
-    let b = s.quals.present;
-    let c = s.depths.present;
-    let d = s.errors.present;
-    let all = a & (b & (c & d));
-    let any = a | (b | (c | d));
-    (all | !any) & (!s.annotation.present | a)
-}
-
-fn reads_after(size: usize, marker: Span) -> Span
-    requires { marker.offset + marker.length ≤ size }
-    ensures { result ≡ reads_after size marker }
-{
-    if marker.present {
-        let offset = marker.offset + marker.length;
-        return Span {
-            present: true,
-            offset,
-            length: size - offset,
-        };
-    }
-    ABSENT
-}
-
-fn molecule_parts(bytes: &[u8]) -> Molecule
+// All that stands after the list's marker. Reads stand only there.
+fn reads_after_marker(bytes: &[u8]) -> Result<Option<&[u8]>, Refusal>
     requires { ascending (whole_fields bytes.now) ≡ true }
-    ensures { result ≡ molecule (length bytes.now) (whole_fields bytes.now) }
+    ensures { reads_in result ≡ reads_read bytes.now }
 {
-    let marker = find(bytes, READ_LIST);
-    Molecule {
-        thresholds: find(bytes, THRESHOLDS),
-        a: strand_fields(bytes, STRAND_A),
-        b: strand_fields(bytes, STRAND_B),
-        reads: reads_after(bytes.len(), marker),
+    match find(bytes, READ_LIST) {
+        Some(marker) => Ok(Some(&bytes[marker.offset + marker.length..])),
+        None => {
+            refuse(find(bytes, READ).is_some(), Refusal::Broken)?;
+            Ok(None)
+        }
     }
-}
-
-// Whether both strands have what they need, and reads, if there are any, stand in a list.
-fn is_complete(m: Molecule, reads: bool) -> bool
-    ensures { result ≡ complete m reads }
-{
-    let a = m.a;
-    let b = m.b;
-    strand_fits(a) & (strand_fits(b) & (!reads | m.reads.present))
 }
 
 // The molecule that the bytes encode. Refuses by 13.
-pub fn read_molecule(bytes: &[u8]) -> Decoded
-    ensures { result ≡ decoded bytes.now }
+pub fn read_molecule(bytes: &[u8]) -> Result<Molecule<'_>, Refusal>
+    ensures { molecule_in result ≡ decoded bytes.now }
 {
-    if MAX_BYTES < bytes.len() {
-        return Decoded::Refused(BROKEN);
-    }
-    if !fields_fit(bytes) {
-        return Decoded::Refused(BROKEN);
-    }
-    let m = molecule_parts(bytes);
-    let read = find(bytes, READ);
-    if !is_complete(m, read.present) {
-        return Decoded::Refused(BROKEN);
-    }
-    Decoded::Of(m)
+    refuse(MAX_BYTES < bytes.len(), Refusal::Broken)?;
+    check_fields(bytes)?;
+    let thresholds = value(bytes, THRESHOLDS);
+    let a = strand_fields(bytes, STRAND_A)?;
+    let b = strand_fields(bytes, STRAND_B)?;
+    let reads = reads_after_marker(bytes)?;
+    Ok(Molecule {
+        thresholds,
+        a,
+        b,
+        reads,
+    })
 }

@@ -1,16 +1,23 @@
 -- The source reads of a duplex record as a run of reads, document 01: the list of the viewer and of the tray.
-use Rattle.std.specs.Prelude.{ℕ, ◌≡◌, Bool, cond, not, ◌&&◌, List, length}
+use Rattle.std.specs.Prelude.{ℕ, Bool, false, cond, Option, Some, None, Result, Ok, Err, List, [], length}
+use denote.Ref.{Bor}
+use Rattle.refusals.specs.declared.Refusal.{Refusal}
+use Rattle.refusals.specs.declared.Refusal.TheVariants.{Broken}
 use Rattle.molecule_fields.specs.Widths.{is_run}
 use Rattle.molecule_reads.specs.Run.{reads_of}
-use Rattle.molecule_reads.specs.declared.ReadCount.{ReadCount}
 use Rattle.duplex_molecule.specs.Molecule.{ct_input}
 use Rattle.duplex_kind.specs.Kind.{Strand}
+use Rattle.duplex_kind.specs.declared.GivenReads.{GivenReads}
 use Rattle.duplex_consensus.specs.Consensus.{list_errors}
 
--- What a call looks at of a run first. Without a list it looks at nothing.
-pub record SeenAs (listed : Bool) (run : List ℕ) (r : ReadCount) : Type 0 where
-  pub broken : r.broken ≡ (listed && not (is_run run))
-  pub count : r.count ≡ cond listed (length (reads_of run)) 0
+-- A run, as the code has it; where there is none, no bytes.
+abbrev pub run_in : Option (Bor (List ℕ)) → List ℕ
+run_in None = []
+run_in (Some run) = run.now
+
+-- The list of reads that a run is, of which no part leaves it; a broken one is refused. Without a list nothing is looked at.
+abbrev pub listed : Bool → List ℕ → Result (Option GivenReads) Refusal
+listed there run = cond there (cond (is_run run) (Ok (Some (record { count = length (reads_of run); leaving = false }))) (Err Broken)) (Ok None)
 
 -- The errors that are counted of the reads of a run at each position.
 abbrev pub run_errors : Strand → Strand → List ℕ → ℕ → ℕ

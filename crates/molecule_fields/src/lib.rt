@@ -7,33 +7,43 @@ ghost use Rattle.lists.specs.Every.{every, among};
 ghost use Rattle.fields.specs.Encoding.{field, field_at};
 ghost use Rattle.molecule_fields.specs.Widths.{annotation_tags, known_tag, read_field, length_fits, is_bit, marks, bits_fit, well_formed, flags_of};
 
-use byte_numbers::u16_of;
 use fields::FieldAt;
-use lists::{at_u8, part_u8};
+use lists::{get_or, part};
 
 // The tags of the format. A strand has five, one after another: bases, qualities, depths, errors, annotation.
 pub const THRESHOLDS: u8 = 0x01;
 
 pub const STRAND_A: u8 = 0x10;
 
+const DEPTHS_A: u8 = 0x12;
+
+const ERRORS_A: u8 = 0x13;
+
+const ANNOTATION_A: u8 = 0x14;
+
 pub const STRAND_B: u8 = 0x20;
+
+const DEPTHS_B: u8 = 0x22;
+
+const ERRORS_B: u8 = 0x23;
+
+const ANNOTATION_B: u8 = 0x24;
 
 pub const READ_LIST: u8 = 0x2f;
 
 pub const READ: u8 = 0x30;
 
+#[tactic(auto, unfolding(crate::specs::Widths::known_tag))]
 fn known_tag(tag: u8) -> bool
     ensures { result ≡ known_tag tag }
 {
-    let a = (STRAND_A <= tag) & (tag <= 0x14);
-    let b = (STRAND_B <= tag) & (tag <= 0x24);
-    (tag == THRESHOLDS) | (a | (b | ((tag == READ_LIST) | (tag == READ))))
+    matches!(tag, THRESHOLDS | STRAND_A..=ANNOTATION_A | STRAND_B..=ANNOTATION_B | READ_LIST | READ)
 }
 
 fn is_annotation(tag: u8) -> bool
     ensures { result ≡ among tag annotation_tags }
 {
-    (tag == 0x14) | (tag == 0x24)
+    matches!(tag, ANNOTATION_A | ANNOTATION_B)
 }
 
 // Whether a tag and a length are a read's.
@@ -44,54 +54,54 @@ pub fn is_read(tag: u8, n: usize) -> bool
 }
 
 // Whether a length fits the widths of a tag's values.
+#[tactic(auto, unfolding(crate::specs::Widths::length_fits))]
 fn length_fits(tag: u8, n: usize) -> bool
     ensures { result ≡ length_fits tag n }
 {
-    let words = (tag == 0x12) | ((tag == 0x13) | ((tag == 0x22) | (tag == 0x23)));
-    let thresholds_fit = !(tag == THRESHOLDS) | (n % 4 == 0);
-    let words_fit = !words | (n % 2 == 0);
-    let annotation_fits = !is_annotation(tag) | (n % 9 == 1);
-    let marker_fits = !(tag == READ_LIST) | (n == 0);
-    let read_fits = !(tag == READ) | is_read(tag, n);
-    thresholds_fit & (words_fit & (annotation_fits & (marker_fits & read_fits)))
+    match tag {
+        THRESHOLDS => n % 4 == 0,
+        DEPTHS_A | ERRORS_A | DEPTHS_B | ERRORS_B => n % 2 == 0,
+        ANNOTATION_A | ANNOTATION_B => n % 9 == 1,
+        READ_LIST => n == 0,
+        READ => 2 <= n,
+        _ => true,
+    }
 }
 
+#[tactic(auto, using(crate::proofs::Marks::passed, crate::proofs::Marks::failed, crate::proofs::Marks::ended))]
 fn marks_fit(value: &[u8]) -> bool
     ensures { result ≡ every is_bit (marks value.now) }
 {
-    let positions = value.len() / 9;
-    let mut i = 0;
-    while i < positions {
+    for i in 0..value.len() / 9 {
         if 1 < value[9 * i + 1] {
             return false;
         }
-        i += 1;
     }
     true
 }
 
+#[tactic(auto, unfolding(crate::specs::Widths::bits_fit))]
 fn bits_fit(tag: u8, value: &[u8]) -> bool
     ensures { result ≡ bits_fit (field tag value.now) }
 {
-    if is_annotation(tag) {
-        return (at_u8(value, 0, 0) <= 1) & marks_fit(value);
-    }
-    true
+    !is_annotation(tag) || (get_or(value, 0, 0) <= 1 && marks_fit(value))
 }
 
 // Whether a field of the bytes has a tag of the format and a value that fits it.
+#[tactic(auto, unfolding(crate::specs::Widths::well_formed))]
 pub fn field_fits(bytes: &[u8], f: FieldAt) -> bool
     ensures { result ≡ well_formed (field_at bytes.now f) }
 {
     let tag = f.tag;
-    let value = part_u8(bytes, f.offset, f.length);
-    known_tag(tag) & (length_fits(tag, value.len()) & bits_fit(tag, value))
+    let value = part(bytes, f.offset, f.length);
+    known_tag(tag) && length_fits(tag, value.len()) && bits_fit(tag, value)
 }
 
 // The flags of a read that is a field of the bytes.
+#[tactic(auto, unfolding(crate::specs::Widths::flags_of), using(byte_numbers::proofs::Bytes::word_le))]
 pub fn read_flags(bytes: &[u8], f: FieldAt) -> u16
     ensures { result ≡ flags_of (field_at bytes.now f) }
 {
-    let value = part_u8(bytes, f.offset, f.length);
-    u16_of(at_u8(value, 0, 0), at_u8(value, 1, 0))
+    let value = part(bytes, f.offset, f.length);
+    u16::from_le_bytes([get_or(value, 0, 0), get_or(value, 1, 0)])
 }

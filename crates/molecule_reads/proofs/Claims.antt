@@ -14,7 +14,7 @@ use lib.Dec.{eqb, leb}
 use lib.ListN.{length, drop}
 use Rattle.lists.specs.Every.{every}
 use Rattle.lists.specs.Part.{leaves}
-use Rattle.lists.proofs.Part.{part_after}
+use Rattle.lists.proofs.Parts.{part_after}
 use Rattle.refusals.proofs.Condition.{both_hold}
 use Rattle.fields.specs.Encoding.{Field, encoded, Fields, fields, fields_of, whole_fields, cut_field, field_at}
 use Rattle.fields.specs.declared.FieldAt.{FieldAt}

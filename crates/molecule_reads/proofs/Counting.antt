@@ -1,8 +1,8 @@
 -- The invariant of the loop that counts the reads of a run: those passed are counted, and what is left decides.
---     begin, one_more, done     the facts that the loop asks for
+--     begin, one_more, done, done_broken     the facts that the loop asks for
 -- Assumes nothing.
 use mathlib.Core.Path.{◌≡◌, refl, sym, ap, ◌∙◌}
-use mathlib.Core.Bool.{Bool, not}
+use mathlib.Core.Bool.{true, false}
 use mathlib.Core.List.{List, []}
 use Prim.Native.Nat.{ℕ, suc, ◌+◌, ◌≤◌}
 use native.Mathlib.Omega.{arith}
@@ -10,7 +10,9 @@ use lib.ListN.{length, drop}
 use Rattle.fields.specs.Encoding.{whole_fields}
 use Rattle.molecule_fields.specs.Widths.{is_run}
 use Rattle.source_reads.specs.declared.SourceRead.{SourceRead}
-use Rattle.molecule_reads.specs.Run.{reads_from, reads_of, CountedAs}
+use Rattle.refusals.specs.declared.Refusal.TheVariants.{Broken}
+use Rattle.std.proofs.Common.{Ok, Err}
+use Rattle.molecule_reads.specs.Run.{reads_from, reads_of, counted}
 use Rattle.molecule_reads.proofs.Run.{Left, ReadsOn}
 
 pub record Counting (run : List ℕ) (count at : ℕ) : Type 0 where
@@ -25,8 +27,9 @@ module _ {run : List ℕ} where
   begin = record { within = omega arith; few = omega arith; left = omega arith; whole = refl }
 
   module _ {count at : ℕ} (k : Counting run count at) where
-    pub one_more : {read : SourceRead} {then : ℕ} → ReadsOn run at read then → Counting run (count + 1) then
-    one_more {read} {then} r =
+    pub one_more : {read : SourceRead} → ReadsOn run at read → Counting run (count + 1) (read.offset + read.length)
+    one_more {read} r =
+        let then = read.offset + read.length in
         let n : length (reads_from at (whole_fields (drop at run))) ≡ suc (length (reads_from then (whole_fields (drop then run)))) = ap length r.left.reads_are in
         record {
           within = r.within;
@@ -35,10 +38,13 @@ module _ {run : List ℕ} where
           whole = sym r.left.whole_is ∙ k.whole;
         }
 
-    pub done : {whole : Bool} → Left run at [] whole → CountedAs run (record { broken = not whole; count = count })
+    pub done : Left run at [] true → counted run ≡ Ok count
+    unfolding counted
     done e =
         let none_left : length (reads_from at (whole_fields (drop at run))) ≡ 0 = ap length e.reads_are in
-        record {
-          broken = ap not (sym e.whole_is ∙ k.whole);
-          count = omega (arith, k.left);
-        }
+        let all : length (reads_of run) ≡ count = omega (arith, k.left) in
+        rw (sym k.whole ∙ e.whole_is, all)
+
+    pub done_broken : Left run at [] false → counted run ≡ Err Broken
+    unfolding counted
+    done_broken e = rw (sym k.whole ∙ e.whole_is)

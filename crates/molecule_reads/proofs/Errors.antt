@@ -5,7 +5,7 @@
 use mathlib.Core.Path.{◌≡◌, refl, sym, ap, ◌∙◌}
 use mathlib.Core.Bool.{Bool}
 use mathlib.Core.List.{List, [], ◌∷◌}
-use Prim.Native.Nat.{ℕ}
+use Prim.Native.Nat.{ℕ, ◌+◌}
 use lib.ListN.{length, drop}
 use Rattle.fields.specs.Encoding.{whole_fields}
 use Rattle.source_reads.specs.Reads.{shown_errors}
@@ -33,11 +33,11 @@ module _ {run : List ℕ} {positions : ℕ} {first last before : List ℕ} where
         ∙ ap length k.left
         ∙ same (reads_of run) run positions first last before
 
-    pub one_more : {read : SourceRead} {then : ℕ} {after : List ℕ} → ReadsOn run at read then → after ≡ shown_errors (read ∷ []) run positions first last errors → Counting run positions first last before after then
-    one_more {read} {then} r e = record {
+    pub one_more : {read : SourceRead} {after : List ℕ} → ReadsOn run at read → after ≡ shown_errors (read ∷ []) run positions first last errors → Counting run positions first last before after (read.offset + read.length)
+    one_more {read} r e = record {
       left =
-          ap (shown_errors (left_at run then) run positions first last) e
-          ∙ sym (after_one (left_at run then) run positions first last errors read)
+          ap (shown_errors (left_at run (read.offset + read.length)) run positions first last) e
+          ∙ sym (after_one (left_at run (read.offset + read.length)) run positions first last errors read)
           ∙ ap (λ (reads : List SourceRead). shown_errors reads run positions first last errors) (sym r.left.reads_are)
           ∙ k.left;
     }

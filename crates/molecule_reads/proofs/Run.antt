@@ -3,22 +3,24 @@
 --     run_next                a read, and the reads from the next place on
 -- Assumes nothing.
 use mathlib.Core.Path.{◌≡◌, refl, sym, ap, ◌∙◌}
+use borrow.Author.Tests.{leb-true}
+use lib.Dec.{eqb, leb}
+use Rattle.std.proofs.Common.{Option, Some, None, Result, Ok, Err}
+use Rattle.refusals.proofs.Condition.{both_hold}
 use mathlib.Core.Bool.{Bool, true, false, cond, not, ◌&&◌}
 use mathlib.Core.List.{List, [], ◌∷◌}
-use Prim.Native.Nat.{ℕ, ◌+◌, ◌≤◌, ◌<◌}
+use Prim.Native.Nat.{ℕ, ◌+◌, ◌-◌, ◌≤◌, ◌<◌}
 use native.Mathlib.Omega.{arith}
 use lib.ListN.{length, drop}
 use Rattle.lists.specs.Every.{every}
 use Rattle.fields.specs.Encoding.{Field, Fields, fields, fields_of, whole_fields, cut_field, next_field, field_at}
 use Rattle.fields.specs.declared.FieldAt.{FieldAt}
-use Rattle.fields.specs.declared.NextField.{NextField}
-use Rattle.fields.specs.declared.NextField.TheVariants.{End as End-field, Cut, Whole}
-use Rattle.fields.proofs.Walk.{BeginsAt, at_end, at_cut, at_whole}
+use Rattle.refusals.specs.declared.Refusal.{Refusal}
+use Rattle.refusals.specs.declared.Refusal.TheVariants.{Broken}
+use Rattle.fields.proofs.Walk.{BeginsAt, at_end, at_cut, cut_is_broken, at_whole}
 use Rattle.molecule_fields.specs.Widths.{is_read, is_run}
 use Rattle.source_reads.specs.declared.SourceRead.{SourceRead}
 use Rattle.molecule_reads.specs.Run.{read_of, reads_from, read_at, next_read}
-use Rattle.molecule_reads.specs.declared.NextRead.{NextRead}
-use Rattle.molecule_reads.specs.declared.NextRead.TheVariants.{End, Broken, Read}
 
 -- What a walk finds from a place on.
 pub record Left (run : List ℕ) (at : ℕ) (reads : List SourceRead) (whole : Bool) : Type 0 where
@@ -41,11 +43,11 @@ and_false true = refl
 and_false false = refl
 
 module _ (run : List ℕ) (at : ℕ) where
-  -- A read begins at the place, and another place is next.
-  pub record ReadsOn (read : SourceRead) (then : ℕ) : Type 0 where
-    pub further : at < then
-    pub within : then ≤ length run
-    pub left : Left run at (read ∷ reads_from then (whole_fields (drop then run))) (is_run (drop then run))
+  -- A read begins at the place, and the next one behind it.
+  pub record ReadsOn (read : SourceRead) : Type 0 where
+    pub further : at < read.offset + read.length
+    pub within : read.offset + read.length ≤ length run
+    pub left : Left run at (read ∷ reads_from (read.offset + read.length) (whole_fields (drop (read.offset + read.length) run))) (is_run (drop (read.offset + read.length) run))
 
   module _ (f : FieldAt) (b : BeginsAt run at f) where
     abbrev next : ℕ
@@ -64,43 +66,51 @@ module _ (run : List ℕ) (at : ℕ) where
       whole_is = begun.whole_is ∙ rw e (and_false (not (cut_field (drop next run))));
     }
 
-    a_read : is_read (field_at run f) ≡ true → ReadsOn (read_of f.offset (field_at run f)) next
+    -- The flags are two bytes of the value.
+    behind : is_read (field_at run f) ≡ true → f.offset + 2 + (length (field_at run f).value - 2) ≡ next
+    behind e =
+        let flagged = leb-true 2 (length (field_at run f).value) (both_hold (eqb f.tag 0x30) (leb 2 (length (field_at run f).value)) e).1 in
+        omega (arith, b.sized)
+
+    a_read : is_read (field_at run f) ≡ true → ReadsOn (read_of f.offset (field_at run f))
     unfolding reads_from every is_run
     a_read e =
         let start : at + 3 ≡ f.offset = sym b.header in
+        let then = behind e in
         record {
-          further = omega (arith, b.header);
-          within = b.within;
-          left = record {
-            reads_are = begun.reads_are ∙ rw (e, start, b.sized);
-            whole_is = begun.whole_is ∙ rw e;
-          };
+          further = omega (arith, b.header, then);
+          within = omega (arith, b.within, then);
+          left = rw then
+              (record {
+                reads_are = begun.reads_are ∙ rw (e, start, b.sized);
+                whole_is = begun.whole_is ∙ rw e;
+              });
         }
 
   -- What is known of the reads from a place on, by what begins there.
-  abbrev Told : NextRead → Type 0
-  Told End = Left run at [] true
-  Told Broken = Left run at [] false
-  Told (Read read then) = ReadsOn read then
+  abbrev Told : Result (Option SourceRead) Refusal → Type 0
+  Told (Ok None) = Left run at [] true
+  Told (Ok (Some read)) = ReadsOn read
+  Told (Err refusal) = Left run at [] false × (refusal ≡ Broken)
 
   told : Told (next_read run at)
   unfolding next_read reads_from every
   told = go (next_field run at) refl
     where
-      go : (r : NextField) → next_field run at ≡ r → Told (read_at run r)
-      go End-field e = left_of run at [] false (at_end run at e)
-      go Cut e = left_of run at [] true (at_cut run at e)
-      go (Whole f) e = by_test (is_read (field_at run f)) refl
+      go : (r : Result (Option FieldAt) Refusal) → next_field run at ≡ r → Told (read_at run r)
+      go (Ok None) e = left_of run at [] false (at_end run at e)
+      go (Err refusal) e = (left_of run at [] true (at_cut run at e), cut_is_broken run at e)
+      go (Ok (Some f)) e = by_test (is_read (field_at run f)) refl
         where
-          by_test : (t : Bool) → is_read (field_at run f) ≡ t → Told (cond t (Read (read_of f.offset (field_at run f)) (f.offset + f.length)) Broken)
+          by_test : (t : Bool) → is_read (field_at run f) ≡ t → Told (cond t (Ok (Some (read_of f.offset (field_at run f)))) (Err Broken))
           by_test true t = a_read f (at_whole run at e) t
-          by_test false t = no_read f (at_whole run at e) t
+          by_test false t = (no_read f (at_whole run at e) t, refl)
 
-  pub run_end : next_read run at ≡ End → Left run at [] true
+  pub run_end : next_read run at ≡ Ok None → Left run at [] true
   run_end e = rw e at told
 
-  pub run_broken : next_read run at ≡ Broken → Left run at [] false
+  pub run_broken : {refusal : Refusal} → next_read run at ≡ Err refusal → Left run at [] false × (refusal ≡ Broken)
   run_broken e = rw e at told
 
-  pub run_next : {read : SourceRead} {then : ℕ} → next_read run at ≡ Read read then → ReadsOn read then
+  pub run_next : {read : SourceRead} → next_read run at ≡ Ok (Some read) → ReadsOn read
   run_next e = rw e at told

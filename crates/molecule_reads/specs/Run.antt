@@ -1,13 +1,11 @@
 -- The reads of a run of encoded reads, document 01: the tray and the viewer's read list. What a read and a run are is in molecule_fields.
-use Rattle.std.specs.Prelude.{◌≡◌, ℕ, ◌+◌, ◌-◌, cond, not, List, [], ◌∷◌, length}
+use Rattle.std.specs.Prelude.{ℕ, ◌+◌, ◌-◌, cond, Option, Some, None, Result, Ok, Err, List, [], ◌∷◌, length}
+use Rattle.refusals.specs.declared.Refusal.{Refusal}
+use Rattle.refusals.specs.declared.Refusal.TheVariants.{Broken}
 use Rattle.fields.specs.Encoding.{Field, whole_fields, next_field, field_at}
-use Rattle.fields.specs.declared.NextField.{NextField}
-use Rattle.fields.specs.declared.NextField.TheVariants.{End as End-field, Cut, Whole}
+use Rattle.fields.specs.declared.FieldAt.{FieldAt}
 use Rattle.molecule_fields.specs.Widths.{is_read, flags_of, is_run}
 use Rattle.source_reads.specs.declared.SourceRead.{SourceRead}
-use Rattle.molecule_reads.specs.declared.NextRead.{NextRead}
-use Rattle.molecule_reads.specs.declared.NextRead.TheVariants.{End, Broken, Read}
-use Rattle.molecule_reads.specs.declared.ReadCount.{ReadCount}
 
 -- A field as a read, whose value is at a place of the run: its bases follow its flags.
 abbrev pub read_of : ℕ → Field → SourceRead
@@ -22,15 +20,14 @@ unfoldable pub reads_of : List ℕ → List SourceRead
 reads_of run = reads_from 0 (whole_fields run)
 
 -- What begins at a place of a run, by the field that begins there.
-abbrev pub read_at : List ℕ → NextField → NextRead
-read_at run End-field = End
-read_at run Cut = Broken
-read_at run (Whole f) = cond (is_read (field_at run f)) (Read (read_of f.offset (field_at run f)) (f.offset + f.length)) Broken
+abbrev pub read_at : List ℕ → Result (Option FieldAt) Refusal → Result (Option SourceRead) Refusal
+read_at run (Ok None) = Ok None
+read_at run (Ok (Some f)) = cond (is_read (field_at run f)) (Ok (Some (read_of f.offset (field_at run f)))) (Err Broken)
+read_at run (Err refusal) = Err refusal
 
-unfoldable pub next_read : List ℕ → ℕ → NextRead
+unfoldable pub next_read : List ℕ → ℕ → Result (Option SourceRead) Refusal
 next_read run at = read_at run (next_field run at)
 
--- What a count of the reads of a run is: whether the run is broken, and how many reads it has.
-pub record CountedAs (run : List ℕ) (r : ReadCount) : Type 0 where
-  pub broken : r.broken ≡ not (is_run run)
-  pub count : r.count ≡ length (reads_of run)
+-- How many reads a run has; a broken one is refused.
+unfoldable pub counted : List ℕ → Result ℕ Refusal
+counted run = cond (is_run run) (Ok (length (reads_of run))) (Err Broken)

@@ -5,77 +5,43 @@
 
 ghost use Rattle.std.specs.Prelude.{◌≡◌};
 ghost use Rattle.source_reads.specs.Reads.{shown_errors, counted_errors};
-ghost use Rattle.molecule_reads.specs.Run.{reads_of, next_read, CountedAs};
+ghost use Rattle.molecule_reads.specs.Run.{reads_of, next_read, counted};
 
 use duplex_molecule::CtInput;
-use fields::{NextField, next_field};
+use fields::next_field;
 use molecule_fields::{is_read, read_flags};
-use source_reads::{SourceRead, add_read_errors, counted_length, expected_bases};
+use refusals::Refusal;
+use source_reads::{SourceRead, StrandBases, add_read_errors, counted_length, expected_bases};
 
-#[derive(Clone, Copy)]
-pub enum NextRead {
-    // No bytes are left.
-    End,
-    // What is left does not begin with a whole field that is a read.
-    Broken,
-    // A read, and where the next one begins.
-    Read { read: SourceRead, next: usize },
-}
-
-// Whether a run is broken, and how many reads it has up to its end or to where it is broken.
-#[derive(Clone, Copy)]
-pub struct ReadCount {
-    pub broken: bool,
-    pub count: usize,
-}
-
-// The read that begins at a place of a run. A place past the end has none.
-pub fn next_read(run: &[u8], at: usize) -> NextRead
+// The read that begins at a place of a run, or none where no bytes are left. The next one begins at its offset plus its length. Refuses
+// by 13 where what is left does not begin with a whole field that is a read.
+pub fn next_read(run: &[u8], at: usize) -> Result<Option<SourceRead>, Refusal>
     ensures { result ≡ next_read run.now at }
 {
-    match next_field(run, at) {
-        NextField::End => NextRead::End,
-        NextField::Cut => NextRead::Broken,
-        NextField::Whole(f) => {
-            if is_read(f.tag, f.length) {
-                let flags = read_flags(run, f);
-                let read = SourceRead {
-                    flags,
-                    offset: f.offset + 2,
-                    length: f.length - 2,
-                };
-                return NextRead::Read {
-                    read,
-                    next: f.offset + f.length,
-                };
-            }
-            NextRead::Broken
-        }
+    let Some(f) = next_field(run, at)? else {
+        return Ok(None);
+    };
+    if !is_read(f.tag, f.length) {
+        return Err(Refusal::Broken);
     }
+    Ok(Some(SourceRead {
+        flags: read_flags(run, f),
+        offset: f.offset + 2,
+        length: f.length - 2,
+    }))
 }
 
-// How many reads a run has.
-pub fn count_reads(run: &[u8]) -> ReadCount
-    ensures { CountedAs run.now result }
+// How many reads a run has. Refuses by 13 where it is broken.
+pub fn count_reads(run: &[u8]) -> Result<usize, Refusal>
+    ensures { result ≡ counted run.now }
 {
     let mut count = 0;
     let mut at = 0;
-    loop {
-        match next_read(run, at) {
-            NextRead::End => return ReadCount {
-                broken: false,
-                count,
-            },
-            NextRead::Broken => return ReadCount {
-                broken: true,
-                count,
-            },
-            NextRead::Read { read: _, next } => {
-                count += 1;
-                at = next;
-            }
-        }
+    while let Some(read) = next_read(run, at)? {
+        count += 1;
+        at = read.offset + read.length;
     }
+    Ok(count)
 }
 
 // Adds the errors of each read of a run at the first positions: as many as are asked for, and no more than each array has. `first`
@@ -84,15 +50,9 @@ fn count_shown_run(run: &[u8], positions: usize, first: &[u8], last: &[u8], erro
     ensures { errors.new ≡ shown_errors (reads_of run.now) run.now positions first.now last.now errors.old }
 {
     let mut place = 0;
-    loop {
-        match next_read(run, place) {
-            NextRead::End => return,
-            NextRead::Broken => return,
-            NextRead::Read { read, next } => {
-                add_read_errors(read, run, positions, first, last, errors);
-                place = next;
-            }
-        }
+    while let Ok(Some(read)) = next_read(run, place) {
+        add_read_errors(read, run, positions, first, last, errors);
+        place = read.offset + read.length;
     }
 }
 
@@ -102,23 +62,14 @@ pub fn count_run_errors(
     run: &[u8],
     ct: CtInput,
     positions: usize,
-    a_bases: &[u8],
-    a_quals: &[u8],
-    b_bases: &[u8],
-    b_quals: &[u8],
+    a: StrandBases,
+    b: StrandBases,
     errors: &mut [u16],
 )
-    ensures { errors.new ≡ counted_errors (reads_of run.now) run.now ct positions a_bases.now a_quals.now b_bases.now b_quals.now errors.old }
+    ensures { errors.new ≡ counted_errors (reads_of run.now) run.now ct positions a.entry.bases.now a.entry.quals.now b.entry.bases.now b.entry.quals.now errors.old }
 {
-    let n = counted_length(
-        positions,
-        a_bases.len(),
-        a_quals.len(),
-        b_bases.len(),
-        b_quals.len(),
-        errors.len(),
-    );
-    let first = expected_bases(ct, false, n, a_bases, a_quals, b_bases, b_quals);
-    let last = expected_bases(ct, true, n, a_bases, a_quals, b_bases, b_quals);
+    let n = counted_length(positions, a, b, errors.len());
+    let first = expected_bases(ct, false, n, a, b);
+    let last = expected_bases(ct, true, n, a, b);
     count_shown_run(run, n, &first, &last, errors);
 }

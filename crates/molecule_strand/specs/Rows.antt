@@ -1,36 +1,37 @@
 -- The rows that are tested of strands given as bytes before their numbers are read, document 01: 13 and 7, by byte counts.
-use Rattle.std.specs.Prelude.{◌/◌, ◌%◌, Bool, not, ◌&&◌, ◌||◌, List, [], ◌∷◌, eqb}
-use Rattle.refusals.specs.Refusal.{Fault, ◌if◌, Broken, TooLong}
+use Rattle.std.specs.Prelude.{◌/◌, ◌%◌, Bool, not, ◌&&◌, ◌||◌, List, [], ◌∷◌, eqb, length}
+use Rattle.refusals.specs.declared.Refusal.TheVariants.{Broken, TooLong}
+use Rattle.refusals.specs.Refusal.{Fault, ◌if◌}
 use Rattle.methylation.specs.Methylation.{is_annotated}
+use Rattle.vanilla_caller.specs.Strand.{strand_too_long}
 use Rattle.vanilla_caller.specs.declared.Lengths.{Lengths}
 use Rattle.byte_numbers.specs.Bytes.{odd_count}
-use Rattle.duplex_kind.specs.Kind.{long}
-use Rattle.molecule_strand.specs.declared.ByteCounts.{ByteCounts}
+use Rattle.molecule_strand.specs.Strand.{StrandBytes}
 
--- Row 13's condition for a strand: a byte count that does not fit the widths. An absent strand's are not looked at, nor that of
+-- Refusal 13's condition for a strand: a byte count that does not fit the widths. An absent strand's are not looked at, nor that of
 -- evidence without an annotation.
-abbrev pub misfit_in : ByteCounts → Bool
-misfit_in s = s.present && (odd_count s.depths || (odd_count s.errors || (is_annotated s.annotation && not (eqb (s.evidence % 9) 0))))
+abbrev pub misfit_in : StrandBytes → Bool
+misfit_in s = s.present && ((odd_count (length s.depths) || odd_count (length s.errors)) || (is_annotated s.annotation && not (eqb (length s.evidence % 9) 0)))
 
 -- How many positions the bytes are, of each array.
-unfoldable pub numbers_in : ByteCounts → Lengths
+abbrev pub numbers_in : StrandBytes → Lengths
 numbers_in s =
-    let places = s.evidence / 9 in
+    let places = length s.evidence / 9 in
     record {
-      bases = s.bases;
-      quals = s.quals;
-      depths = s.depths / 2;
-      errors = s.errors / 2;
+      bases = length s.bases;
+      quals = length s.quals;
+      depths = length s.depths / 2;
+      errors = length s.errors / 2;
       evidence = record { marks = places; unconverted = places; converted = places };
     }
 
--- Row 7's.
-abbrev pub long_in : ByteCounts → Bool
-long_in s = long (record { present = s.present; annotation = s.annotation; lengths = numbers_in s })
+-- Refusal 7's.
+abbrev pub long_in : StrandBytes → Bool
+long_in s = s.present && strand_too_long (is_annotated s.annotation) (numbers_in s)
 
--- The rows in their order, where reads are a broken run or not.
-unfoldable pub early_faults : ByteCounts → ByteCounts → Bool → List Fault
-early_faults a b broken =
-    (Broken if (misfit_in a || (misfit_in b || broken)))
+-- The rows in their order.
+abbrev pub early_faults : StrandBytes → StrandBytes → List Fault
+early_faults a b =
+    (Broken if (misfit_in a || misfit_in b))
     ∷ (TooLong if (long_in a || long_in b))
     ∷ []

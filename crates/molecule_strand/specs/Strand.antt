@@ -1,20 +1,21 @@
 -- A strand given as bytes, document 01's forms for the viewer and for an encoded molecule: depths and errors two bytes a position, low
 -- byte first, evidence nine.
-use Rattle.std.specs.Prelude.{ℕ, ◌/◌, ◌≤◌, min, ◌≡◌, Bool, cond, ◌&&◌, List, eqb, ltb, length, take}
+use Rattle.std.specs.Prelude.{None, Some, Option, ℕ, ◌/◌, ◌≤◌, ◌≡◌, Bool, true, false, cond, ◌&&◌, List, [], eqb, ltb, length, take}
 use Rattle.lists.specs.Output.{put}
-use Rattle.methylation.specs.declared.Annotation.{Annotation}
-use Rattle.methylation.specs.declared.Annotation.TheVariants.{Absent, Of}
+use Rattle.lists.specs.Part.{only_if}
+use Rattle.methylation.specs.Arrays.{EvidenceArrays}
+use Rattle.methylation.specs.Methylation.{is_annotated}
 use Rattle.methylation.specs.declared.ConversionPattern.TheVariants.{CToT, GToA}
 use Rattle.vanilla_caller.specs.Strand.{arrays}
 use Rattle.byte_numbers.specs.Bytes.{words16}
 use Rattle.molecule_evidence.specs.Evidence.{marks_of, unconverted_of, converted_of}
 use Rattle.duplex_kind.specs.Kind.{Strand, strand}
-use Rattle.molecule_strand.specs.declared.NumberCounts.{NumberCounts}
-use Rattle.molecule_strand.specs.declared.StrandCounts.{StrandCounts}
+use Rattle.molecule_strand.specs.declared.EncodedStrand.{EncodedStrand}
+use Rattle.methylation.specs.declared.ConversionPattern.{ConversionPattern}
 
 -- An annotation, where there is one, by the number of its pattern: 0 is C to T, 1 G to A. A number above 1 is refused.
-unfoldable pub annotation_of : Bool → ℕ → Annotation
-annotation_of annotated pattern = cond annotated (Of (cond (eqb pattern 0) CToT GToA)) Absent
+abbrev pub annotation_of : Bool → ℕ → Option ConversionPattern
+annotation_of annotated pattern = cond annotated (Some (cond (eqb pattern 0) CToT GToA)) None
 
 -- A pattern above 1 is refused, where there is an annotation.
 abbrev pub wrong_pattern : Bool → ℕ → Bool
@@ -22,14 +23,14 @@ wrong_pattern annotated pattern = annotated && ltb 1 pattern
 
 pub record StrandBytes : Type 0 where
   pub present : Bool
-  pub annotation : Annotation
+  pub annotation : Option ConversionPattern
   pub bases : List ℕ
   pub quals : List ℕ
   pub depths : List ℕ
   pub errors : List ℕ
   pub evidence : List ℕ
 
-abbrev pub strand_bytes : Bool → Annotation → List ℕ → List ℕ → List ℕ → List ℕ → List ℕ → StrandBytes
+abbrev pub strand_bytes : Bool → Option ConversionPattern → List ℕ → List ℕ → List ℕ → List ℕ → List ℕ → StrandBytes
 strand_bytes present annotation bases quals depths errors evidence = record {
   present = present;
   annotation = annotation;
@@ -39,6 +40,11 @@ strand_bytes present annotation bases quals depths errors evidence = record {
   errors = errors;
   evidence = evidence;
 }
+
+-- As the code has it, where it is there.
+abbrev pub encoded_in : Option EncodedStrand → StrandBytes
+encoded_in None = strand_bytes false None [] [] [] [] []
+encoded_in (Some s) = strand_bytes true s.annotation s.bases.now s.quals.now s.depths.now s.errors.now s.evidence.now
 
 -- The strand that the bytes stand for.
 unfoldable pub strand_of : StrandBytes → Strand
@@ -73,20 +79,27 @@ numbers depths errors marks unconverted converted = record { depths = depths; er
 abbrev pub ReadTo : List ℕ → List ℕ → List ℕ → Type 0
 ReadTo xs before now = now ≡ put (take (length before) xs) before
 
--- What reading a strand's depths, errors and evidence leaves in the arrays, and how many were read of each.
-pub record StrandRead (depth_bytes error_bytes evidence : List ℕ) (before now : Numbers) (r : StrandCounts) : Type 0 where
-  pub depths : ReadTo (words16 depth_bytes) before.depths now.depths
-  pub errors : ReadTo (words16 error_bytes) before.errors now.errors
-  pub marks : ReadTo (marks_of evidence) before.marks now.marks
-  pub unconverted : ReadTo (unconverted_of evidence) before.unconverted now.unconverted
-  pub converted : ReadTo (converted_of evidence) before.converted now.converted
-  pub depth_count : r.depths ≡ min (length before.depths) (length depth_bytes / 2)
-  pub error_count : r.errors ≡ min (length before.errors) (length error_bytes / 2)
-  pub mark_count : r.marks ≡ min (length before.marks) (length evidence / 9)
+-- The evidence that is looked at.
+abbrev pub evidence_seen : StrandBytes → List ℕ
+evidence_seen s = only_if (is_annotated s.annotation) s.evidence
+
+-- What reading a strand's depths, errors and evidence leaves in the arrays.
+pub record StrandRead (s : StrandBytes) (before now : Numbers) : Type 0 where
+  pub depths : ReadTo (words16 s.depths) before.depths now.depths
+  pub errors : ReadTo (words16 s.errors) before.errors now.errors
+  pub marks : ReadTo (marks_of (evidence_seen s)) before.marks now.marks
+  pub unconverted : ReadTo (unconverted_of (evidence_seen s)) before.unconverted now.unconverted
+  pub converted : ReadTo (converted_of (evidence_seen s)) before.converted now.converted
 
 -- The same of depths and errors alone.
-pub record NumbersRead (depth_bytes error_bytes depths_before errors_before depths_now errors_now : List ℕ) (r : NumberCounts) : Type 0 where
-  pub depths : ReadTo (words16 depth_bytes) depths_before depths_now
-  pub errors : ReadTo (words16 error_bytes) errors_before errors_now
-  pub depth_count : r.depths ≡ min (length depths_before) (length depth_bytes / 2)
-  pub error_count : r.errors ≡ min (length errors_before) (length error_bytes / 2)
+pub record NumbersRead (s : StrandBytes) (depths_before errors_before depths_now errors_now : List ℕ) : Type 0 where
+  pub depths : ReadTo (words16 s.depths) depths_before depths_now
+  pub errors : ReadTo (words16 s.errors) errors_before errors_now
+
+-- The strand whose numbers are at the front of some arrays: of each as many as its bytes stand for.
+abbrev pub numbers_strand : StrandBytes → List ℕ → List ℕ → EvidenceArrays → Strand
+numbers_strand s depths errors evidence =
+    let places = length (evidence_seen s) / 9 in
+    strand s.present s.annotation
+    (arrays s.bases s.quals (take (length s.depths / 2) depths) (take (length s.errors / 2) errors)
+    (take places evidence.marks) (take places evidence.unconverted) (take places evidence.converted))

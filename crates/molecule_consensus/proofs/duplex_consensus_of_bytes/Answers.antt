@@ -1,57 +1,40 @@
 -- `molecule_consensus::duplex_consensus_of_bytes` meets its contract: refused by rows 13 and 7, or read, and the record made of the numbers
 -- and its errors counted. Assumes nothing.
-use Rattle.molecule_strand.specs.Strand.{strand_bytes}
-use Rattle.molecule_strand.proofs.Strand.{room, read_fits, read_within}
-use Rattle.molecule_consensus.proofs.Bytes.{turned_down, passed_on}
+use mathlib.Core.Path.{refl, sym, ◌∙◌}
+use Rattle.std.proofs.lemmas.Result.{err_from_is_err_and}
+use Rattle.duplex_outputs.specs.Outputs.{record_of}
+use Rattle.molecule_errors.proofs.Run.{listed_broken, listed_whole}
+use Rattle.molecule_consensus.proofs.Bytes.{torn_down, turned_down, first_narrow, second_narrow}
+use Rattle.molecule_consensus.proofs.Made.{strand_is, refused_by_row, made_of}
 use Rattle.molecule_consensus.proofs.duplex_consensus_of_bytes.Goals as goal
 
-pub returns-then-number-ne0 : goal.returns-then-number-ne0
-returns-then-number-ne0 c =
-    let g = c.args in
-    turned_down
-    (strand_bytes g.a_present g.a_annotation g.a_bases.now g.a_quals.now g.a_depths.now g.a_errors.now g.a_evidence.now)
-    (strand_bytes g.b_present g.b_annotation g.b_bases.now g.b_quals.now g.b_depths.now g.b_errors.now g.b_evidence.now)
-    g.listed g.run.now _ c.count_listed-reads.ensures.broken c.early_refusal-number.ensures c.if-number-ne0.true
+pub returns-in_err-list : goal.returns-in_err-list
+returns-in_err-list c =
+    let p = err_from_is_err_and c.from_residual.result c.from_residual.ensures.1 in
+    let (torn, is) = listed_broken _ _ (sym c.count_listed.ensures ∙ c.in_err-list.was) in
+    rw (p.1, p.2, is) (torn_down c.args.a c.args.b _ _ _ torn)
+
+pub returns-in_err-early_refusal : goal.returns-in_err-early_refusal
+returns-in_err-early_refusal c =
+    let p = err_from_is_err_and c.from_residual-in_err-early_refusal.result c.from_residual-in_err-early_refusal.ensures.1 in
+    let (whole, l) = listed_whole _ _ (sym c.count_listed.ensures ∙ c.in_ok-list.was) in
+    rw (p.1, p.2) (turned_down c.args.a c.args.b _ _ _ whole (sym c.early_refusal.ensures ∙ c.in_err-early_refusal.was))
+
+pub returns-in_err-made : goal.returns-in_err-made
+returns-in_err-made c =
+    let p = err_from_is_err_and c.from_residual-in_err-made.result c.from_residual-in_err-made.ensures.1 in
+    let (whole, l) = listed_whole _ _ (sym c.count_listed.ensures ∙ c.in_ok-list.was) in
+    let early = sym c.early_refusal.ensures ∙ c.in_ok-early_refusal.was in
+    let before = record_of c.args.bases_out.now c.args.quals_out.now c.args.errors_out.now c.args.a_marks_out.now c.args.a_unconverted_out.now c.args.a_converted_out.now c.args.b_marks_out.now c.args.b_unconverted_out.now c.args.b_converted_out.now in
+    let first = strand_is c.args.a (first_narrow c.args.a c.args.b _ _ before whole early) c.strand_of_numbers-a_read.ensures c.read_strand.ensures in
+    let second = strand_is c.args.b (second_narrow c.args.a c.args.b _ _ before whole early) c.strand_of_numbers-b_read.ensures c.read_strand-2.ensures in
+    rw (p.1, p.2) (refused_by_row c.args.a c.args.b _ _ _ whole early l first second (rw c.in_err-made.was at c.duplex_record.ensures))
 
 pub returns : goal.returns
 returns c =
-    let g = c.args in
-    passed_on
-    (strand_bytes g.a_present g.a_annotation g.a_bases.now g.a_quals.now g.a_depths.now g.a_errors.now g.a_evidence.now)
-    (strand_bytes g.b_present g.b_annotation g.b_bases.now g.b_quals.now g.b_depths.now g.b_errors.now g.b_evidence.now)
-    g.listed g.run.now _ c.count_listed-reads.ensures.broken c.early_refusal-number.ensures c.if-number-ne0.false
-    (read_within c.read_strand-a.ensures (room 1024) _ _ _ _)
-    (read_within c.read_strand-b.ensures (room 1024) _ _ _ _)
-    c.count_listed-reads.ensures.count
-    c.duplex_record-made.ensures
-    c.count_errors.ensures
-
-pub slice_bounds-duplex_record-end : goal.slice_bounds-duplex_record-end
-slice_bounds-duplex_record-end c = (read_fits c.read_strand-a.ensures (room 1024)).depths
-
-pub slice_bounds-duplex_record-end-2 : goal.slice_bounds-duplex_record-end-2
-slice_bounds-duplex_record-end-2 c = (read_fits c.read_strand-a.ensures (room 1024)).errors
-
-pub slice_bounds-duplex_record-end-3 : goal.slice_bounds-duplex_record-end-3
-slice_bounds-duplex_record-end-3 c = (read_fits c.read_strand-a.ensures (room 1024)).marks
-
-pub slice_bounds-duplex_record-end-4 : goal.slice_bounds-duplex_record-end-4
-slice_bounds-duplex_record-end-4 c = (read_fits c.read_strand-a.ensures (room 1024)).unconverted
-
-pub slice_bounds-duplex_record-end-5 : goal.slice_bounds-duplex_record-end-5
-slice_bounds-duplex_record-end-5 c = (read_fits c.read_strand-a.ensures (room 1024)).converted
-
-pub slice_bounds-duplex_record-end-6 : goal.slice_bounds-duplex_record-end-6
-slice_bounds-duplex_record-end-6 c = (read_fits c.read_strand-b.ensures (room 1024)).depths
-
-pub slice_bounds-duplex_record-end-7 : goal.slice_bounds-duplex_record-end-7
-slice_bounds-duplex_record-end-7 c = (read_fits c.read_strand-b.ensures (room 1024)).errors
-
-pub slice_bounds-duplex_record-end-8 : goal.slice_bounds-duplex_record-end-8
-slice_bounds-duplex_record-end-8 c = (read_fits c.read_strand-b.ensures (room 1024)).marks
-
-pub slice_bounds-duplex_record-end-9 : goal.slice_bounds-duplex_record-end-9
-slice_bounds-duplex_record-end-9 c = (read_fits c.read_strand-b.ensures (room 1024)).unconverted
-
-pub slice_bounds-duplex_record-end-10 : goal.slice_bounds-duplex_record-end-10
-slice_bounds-duplex_record-end-10 c = (read_fits c.read_strand-b.ensures (room 1024)).converted
+    let (whole, l) = listed_whole _ _ (sym c.count_listed.ensures ∙ c.in_ok-list.was) in
+    let early = sym c.early_refusal.ensures ∙ c.in_ok-early_refusal.was in
+    let before = record_of c.args.bases_out.now c.args.quals_out.now c.args.errors_out.now c.args.a_marks_out.now c.args.a_unconverted_out.now c.args.a_converted_out.now c.args.b_marks_out.now c.args.b_unconverted_out.now c.args.b_converted_out.now in
+    let first = strand_is c.args.a (first_narrow c.args.a c.args.b _ _ before whole early) c.strand_of_numbers-a_read.ensures c.read_strand.ensures in
+    let second = strand_is c.args.b (second_narrow c.args.a c.args.b _ _ before whole early) c.strand_of_numbers-b_read.ensures c.read_strand-2.ensures in
+    (made_of c.args.a c.args.b _ _ _ whole early l first second (rw c.in_ok-made.was at c.duplex_record.ensures) refl refl c.count_errors.ensures)

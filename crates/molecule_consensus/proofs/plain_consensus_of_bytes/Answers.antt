@@ -1,40 +1,45 @@
 -- `molecule_consensus::plain_consensus_of_bytes` meets its contract: refused by rows 13 and 7, or read, and the record made of the numbers
 -- and its errors counted. Assumes nothing.
+use mathlib.Core.Path.{sym, ◌∙◌}
 use mathlib.Core.List.{[]}
-use mathlib.Core.Path.{◌≡◌}
-use Prim.Native.Nat.{ℕ}
-use lib.ListN.{length, replicate, length-replicate}
-use Rattle.methylation.specs.declared.Annotation.TheVariants.{Absent}
-use Rattle.molecule_strand.specs.Strand.{strand_bytes}
-use Rattle.molecule_strand.proofs.Strand.{numbers_fit, plain_within}
-use Rattle.molecule_consensus.proofs.Bytes.{turned_down, passed_on}
+use Rattle.std.proofs.lemmas.Result.{err_from_is_err_and}
+use Rattle.duplex_outputs.specs.Outputs.{record_of}
+use Rattle.molecule_strand.specs.Strand.{encoded_in}
+use Rattle.molecule_errors.proofs.Run.{listed_broken, listed_whole}
+use Rattle.molecule_consensus.proofs.Bytes.{torn_down, turned_down, first_narrow, second_narrow}
+use Rattle.molecule_consensus.proofs.Made.{plain_same, plain_is, by_strands, refused_by_row, made_of}
 use Rattle.molecule_consensus.proofs.plain_consensus_of_bytes.Goals as goal
 
--- The arrays that numbers are read to.
-size : length {A = ℕ} (replicate 1024 0) ≡ 1024
-size = length-replicate {A = ℕ} 1024 0
+pub returns-in_err-list : goal.returns-in_err-list
+returns-in_err-list c =
+    let p = err_from_is_err_and c.from_residual.result c.from_residual.ensures.1 in
+    let (torn, is) = listed_broken _ _ (sym c.count_listed.ensures ∙ c.in_err-list.was) in
+    rw (p.1, p.2, is) (by_strands c.plain-a.ensures c.plain-b.ensures (torn_down c.plain-a.result c.plain-b.result _ _ _ torn))
 
-pub returns-then-number-ne0 : goal.returns-then-number-ne0
-returns-then-number-ne0 c =
-    turned_down (strand_bytes c.args.a_present Absent c.args.a_bases.now c.args.a_quals.now c.args.a_depths.now c.args.a_errors.now []) (strand_bytes c.args.b_present Absent c.args.b_bases.now c.args.b_quals.now c.args.b_depths.now c.args.b_errors.now []) c.args.listed c.args.run.now _ c.count_listed-reads.ensures.broken c.early_refusal-number.ensures c.if-number-ne0.true
+pub returns-in_err-early_refusal : goal.returns-in_err-early_refusal
+returns-in_err-early_refusal c =
+    let p = err_from_is_err_and c.from_residual-in_err-early_refusal.result c.from_residual-in_err-early_refusal.ensures.1 in
+    let (whole, l) = listed_whole _ _ (sym c.count_listed.ensures ∙ c.in_ok-list.was) in
+    rw (p.1, p.2) (by_strands c.plain-a.ensures c.plain-b.ensures (turned_down c.plain-a.result c.plain-b.result _ _ _ whole (sym c.early_refusal.ensures ∙ c.in_err-early_refusal.was)))
+
+pub returns-in_err-made : goal.returns-in_err-made
+returns-in_err-made c =
+    let p = err_from_is_err_and c.from_residual-in_err-made.result c.from_residual-in_err-made.ensures.1 in
+    let (whole, l) = listed_whole _ _ (sym c.count_listed.ensures ∙ c.in_ok-list.was) in
+    let early = sym c.early_refusal.ensures ∙ c.in_ok-early_refusal.was in
+    let before = record_of c.args.bases_out.now c.args.quals_out.now c.args.errors_out.now [] [] [] [] [] [] in
+    let first = plain_is c.plain-a.result (encoded_in c.args.a) c.strand_of_numbers-a_read.result c.plain-a.ensures (first_narrow c.plain-a.result c.plain-b.result _ _ before whole early) c.strand_of_numbers-a_read.ensures c.read_numbers.ensures in
+    let second = plain_is c.plain-b.result (encoded_in c.args.b) c.strand_of_numbers-b_read.result c.plain-b.ensures (second_narrow c.plain-a.result c.plain-b.result _ _ before whole early) c.strand_of_numbers-b_read.ensures c.read_numbers-2.ensures in
+    rw (p.1, p.2) (by_strands c.plain-a.ensures c.plain-b.ensures (refused_by_row c.plain-a.result c.plain-b.result _ _ _ whole early l first second (rw c.in_err-made.was at c.plain_record.ensures)))
 
 pub returns : goal.returns
 returns c =
-    passed_on (strand_bytes c.args.a_present Absent c.args.a_bases.now c.args.a_quals.now c.args.a_depths.now c.args.a_errors.now []) (strand_bytes c.args.b_present Absent c.args.b_bases.now c.args.b_quals.now c.args.b_depths.now c.args.b_errors.now []) c.args.listed c.args.run.now _ c.count_listed-reads.ensures.broken c.early_refusal-number.ensures c.if-number-ne0.false
-    (plain_within c.read_numbers-a.ensures size size _ _ _ _)
-    (plain_within c.read_numbers-b.ensures size size _ _ _ _)
-    c.count_listed-reads.ensures.count
-    c.plain_record-made.ensures
-    c.count_errors.ensures
-
-pub slice_bounds-plain_record-end : goal.slice_bounds-plain_record-end
-slice_bounds-plain_record-end c = (numbers_fit c.read_numbers-a.ensures size size).0
-
-pub slice_bounds-plain_record-end-2 : goal.slice_bounds-plain_record-end-2
-slice_bounds-plain_record-end-2 c = (numbers_fit c.read_numbers-a.ensures size size).1
-
-pub slice_bounds-plain_record-end-3 : goal.slice_bounds-plain_record-end-3
-slice_bounds-plain_record-end-3 c = (numbers_fit c.read_numbers-b.ensures size size).0
-
-pub slice_bounds-plain_record-end-4 : goal.slice_bounds-plain_record-end-4
-slice_bounds-plain_record-end-4 c = (numbers_fit c.read_numbers-b.ensures size size).1
+    let (whole, l) = listed_whole _ _ (sym c.count_listed.ensures ∙ c.in_ok-list.was) in
+    let early = sym c.early_refusal.ensures ∙ c.in_ok-early_refusal.was in
+    let before = record_of c.args.bases_out.now c.args.quals_out.now c.args.errors_out.now [] [] [] [] [] [] in
+    let first = plain_is c.plain-a.result (encoded_in c.args.a) c.strand_of_numbers-a_read.result c.plain-a.ensures (first_narrow c.plain-a.result c.plain-b.result _ _ before whole early) c.strand_of_numbers-a_read.ensures c.read_numbers.ensures in
+    let second = plain_is c.plain-b.result (encoded_in c.args.b) c.strand_of_numbers-b_read.result c.plain-b.ensures (second_narrow c.plain-a.result c.plain-b.result _ _ before whole early) c.strand_of_numbers-b_read.ensures c.read_numbers-2.ensures in
+    by_strands c.plain-a.ensures c.plain-b.ensures
+    (made_of c.plain-a.result c.plain-b.result _ _ _ whole early l first second (rw c.in_ok-made.was at c.plain_record.ensures)
+    (sym (plain_same c.plain-a.result (encoded_in c.args.a) c.strand_of_numbers-a_read.result _ _ c.plain-a.ensures c.strand_of_numbers-a_read.ensures))
+    (sym (plain_same c.plain-b.result (encoded_in c.args.b) c.strand_of_numbers-b_read.result _ _ c.plain-b.ensures c.strand_of_numbers-b_read.ensures)) c.count_errors.ensures)

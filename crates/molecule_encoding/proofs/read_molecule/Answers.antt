@@ -1,37 +1,65 @@
--- `molecule_encoding::read_molecule` meets its contract: at each `return` the tests that led there decide. Assumes nothing.
-use mathlib.Core.Path.{◌≡◌, sym, ◌∙◌}
-use Prim.Native.Nat.{◌≤◌}
-use native.Mathlib.Omega.{arith}
-use lib.ListN.{length}
-use Rattle.fields.specs.Encoding.{whole_fields}
-use Rattle.molecule_encoding.specs.Format.{most_bytes, span_of, molecule, complete}
-use Rattle.molecule_encoding.proofs.Accepted.{too_big, unfit, incomplete, completed, fit_ascending}
+-- `molecule_encoding::read_molecule` meets its contract: at each exit the tests that led there decide. Assumes nothing.
+use mathlib.Core.Path.{sym, ap, ◌∙◌}
+use Rattle.std.proofs.lemmas.Result.{err_from_is_err_and}
+use Rattle.molecule_encoding.specs.Parts.{strand_in, reads_in}
+use Rattle.molecule_encoding.proofs.Accepted.{too_big, small, fit, fit_ascending, unfit, a_unfit, b_unfit, reads_unfit, completed}
 use Rattle.molecule_encoding.proofs.read_molecule.Goals as goal
 
-pub returns-then-bytes-gt-MAX_BYTES : goal.returns-then-bytes-gt-MAX_BYTES
-returns-then-bytes-gt-MAX_BYTES c = too_big _ c.if-bytes-gt-MAX_BYTES.true
+pub returns-in_err-refuse : goal.returns-in_err-refuse
+returns-in_err-refuse c =
+    let p = err_from_is_err_and c.from_residual.result c.from_residual.ensures.1 in
+    rw (p.1, p.2) (sym (too_big c.args.bytes.now (sym c.refuse.ensures ∙ c.in_err-refuse.was)))
 
-pub returns-then-not-fields_fit : goal.returns-then-not-fields_fit
-returns-then-not-fields_fit c =
-    let small : length c.args.bytes.now ≤ most_bytes = omega arith in
-    unfit _ small (sym c.fields_fit.ensures ∙ c.if-not-fields_fit.true)
+pub returns-in_err-check_fields : goal.returns-in_err-check_fields
+returns-in_err-check_fields c =
+    let few = small c.args.bytes.now (sym c.refuse.ensures ∙ c.in_ok-refuse.was) in
+    let p = err_from_is_err_and c.from_residual-in_err-check_fields.result c.from_residual-in_err-check_fields.ensures.1 in
+    rw (p.1, p.2) (sym (unfit c.args.bytes.now few (sym c.check_fields.ensures ∙ c.in_err-check_fields.was)))
 
-pub molecule_parts-m-requires : goal.molecule_parts-m-requires
-molecule_parts-m-requires c = fit_ascending _ (sym c.fields_fit.ensures ∙ c.if-not-fields_fit.false)
+pub value-thresholds-requires : goal.value-thresholds-requires
+value-thresholds-requires c = fit_ascending c.args.bytes.now (fit c.args.bytes.now (sym c.check_fields.ensures ∙ c.in_ok-check_fields.was))
 
-pub find-read-requires : goal.find-read-requires
-find-read-requires c = fit_ascending _ (sym c.fields_fit.ensures ∙ c.if-not-fields_fit.false)
+pub strand_fields-requires-clause-bytes_value : goal.strand_fields-requires-clause-bytes_value
+strand_fields-requires-clause-bytes_value c = fit_ascending c.args.bytes.now (fit c.args.bytes.now (sym c.check_fields.ensures ∙ c.in_ok-check_fields.was))
 
-pub returns-then-not-is_complete : goal.returns-then-not-is_complete
-returns-then-not-is_complete c =
+pub returns-in_err-a : goal.returns-in_err-a
+returns-in_err-a c =
     let bytes = c.args.bytes.now in
-    let small : length bytes ≤ most_bytes = omega arith in
-    let last : c.is_complete.result ≡ complete (molecule (length bytes) (whole_fields bytes)) (span_of 0x30 (whole_fields bytes)).present = cc in
-    incomplete _ small (sym c.fields_fit.ensures ∙ c.if-not-fields_fit.false) (sym last ∙ c.if-not-is_complete.true)
+    let few = small bytes (sym c.refuse.ensures ∙ c.in_ok-refuse.was) in
+    let fits = fit bytes (sym c.check_fields.ensures ∙ c.in_ok-check_fields.was) in
+    let p = err_from_is_err_and c.from_residual-in_err-a.result c.from_residual-in_err-a.ensures.1 in
+    rw (p.1, p.2) (sym (a_unfit bytes few fits (sym c.strand_fields.ensures ∙ ap strand_in c.in_err-a.was)))
+
+pub strand_fields-requires-2-clause-bytes_value : goal.strand_fields-requires-2-clause-bytes_value
+strand_fields-requires-2-clause-bytes_value c = fit_ascending c.args.bytes.now (fit c.args.bytes.now (sym c.check_fields.ensures ∙ c.in_ok-check_fields.was))
+
+pub returns-in_err-b : goal.returns-in_err-b
+returns-in_err-b c =
+    let bytes = c.args.bytes.now in
+    let few = small bytes (sym c.refuse.ensures ∙ c.in_ok-refuse.was) in
+    let fits = fit bytes (sym c.check_fields.ensures ∙ c.in_ok-check_fields.was) in
+    let a = sym c.strand_fields.ensures ∙ ap strand_in c.in_ok-a.was in
+    let p = err_from_is_err_and c.from_residual-in_err-b.result c.from_residual-in_err-b.ensures.1 in
+    rw (p.1, p.2) (sym (b_unfit bytes few fits a (sym c.strand_fields-2.ensures ∙ ap strand_in c.in_err-b.was)))
+
+pub reads_after_marker-requires : goal.reads_after_marker-requires
+reads_after_marker-requires c = fit_ascending c.args.bytes.now (fit c.args.bytes.now (sym c.check_fields.ensures ∙ c.in_ok-check_fields.was))
+
+pub returns-in_err-reads : goal.returns-in_err-reads
+returns-in_err-reads c =
+    let bytes = c.args.bytes.now in
+    let few = small bytes (sym c.refuse.ensures ∙ c.in_ok-refuse.was) in
+    let fits = fit bytes (sym c.check_fields.ensures ∙ c.in_ok-check_fields.was) in
+    let a = sym c.strand_fields.ensures ∙ ap strand_in c.in_ok-a.was in
+    let b = sym c.strand_fields-2.ensures ∙ ap strand_in c.in_ok-b.was in
+    let p = err_from_is_err_and c.from_residual-in_err-reads.result c.from_residual-in_err-reads.ensures.1 in
+    rw (p.1, p.2) (sym (reads_unfit bytes few fits a b (sym c.reads_after_marker.ensures ∙ ap reads_in c.in_err-reads.was)))
 
 pub returns : goal.returns
 returns c =
     let bytes = c.args.bytes.now in
-    let small : length bytes ≤ most_bytes = omega arith in
-    let last : c.is_complete.result ≡ complete (molecule (length bytes) (whole_fields bytes)) (span_of 0x30 (whole_fields bytes)).present = cc in
-    rw c.molecule_parts-m.ensures (completed _ small (sym c.fields_fit.ensures ∙ c.if-not-fields_fit.false) (sym last ∙ c.if-not-is_complete.false))
+    let few = small bytes (sym c.refuse.ensures ∙ c.in_ok-refuse.was) in
+    let fits = fit bytes (sym c.check_fields.ensures ∙ c.in_ok-check_fields.was) in
+    let a = sym c.strand_fields.ensures ∙ ap strand_in c.in_ok-a.was in
+    let b = sym c.strand_fields-2.ensures ∙ ap strand_in c.in_ok-b.was in
+    rw c.value-thresholds.ensures (sym (completed bytes few fits a b (sym c.reads_after_marker.ensures ∙ ap reads_in c.in_ok-reads.was)))

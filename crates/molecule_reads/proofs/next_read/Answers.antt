@@ -1,59 +1,48 @@
 -- `molecule_reads::next_read` meets its contract, by the field that begins at the place. Assumes nothing.
-use mathlib.Core.Path.{◌≡◌, sym, ◌∙◌}
+use mathlib.Core.Path.{◌≡◌, sym, ap, ◌∙◌}
 use mathlib.Core.Bool.{true, false}
-use mathlib.Core.List.{List}
-use Prim.Native.Nat.{ℕ, ◌+◌, ◌-◌}
 use native.Mathlib.Omega.{arith}
 use borrow.Author.Tests.{leb-true}
 use lib.Dec.{eqb, leb}
+use Rattle.std.proofs.Common.{Some, None, Ok, Err}
+use Rattle.std.proofs.lemmas.Result.{err_from_is_err_and}
 use Rattle.refusals.proofs.Condition.{both_hold}
-use Rattle.fields.specs.Encoding.{next_field, field_at}
-use Rattle.fields.specs.declared.FieldAt.{FieldAt}
-use Rattle.fields.specs.declared.NextField.TheVariants.{Whole}
+use Rattle.fields.specs.Encoding.{next_field}
 use Rattle.fields.proofs.Walk.{at_whole}
-use Rattle.molecule_fields.specs.Widths.{read_field, flags_of}
+use Rattle.molecule_fields.specs.Widths.{read_field}
 use Rattle.molecule_reads.specs.Run.{next_read}
-use Rattle.molecule_reads.specs.declared.NextRead.TheVariants.{Broken, Read}
 use Rattle.molecule_reads.proofs.next_read.Goals as goal
 
--- What is answered where a field begins at the place, by whether it is a read.
-module _ (run : List ℕ) (at : ℕ) (f : FieldAt) (e : next_field run at ≡ Whole f) where
-  read_is :
-      (flags : ℕ)
-      → read_field f.tag f.length ≡ true
-      → flags ≡ flags_of (field_at run f)
-      → Read (record { flags = flags; offset = f.offset + 2; length = f.length - 2 }) (f.offset + f.length) ≡ next_read run at
-  unfolding next_read
-  read_is flags t same = rw (e, (at_whole run at e).sized, t, same)
-
-  no_read : read_field f.tag f.length ≡ false → Broken ≡ next_read run at
-  unfolding next_read
-  no_read t = rw (e, (at_whole run at e).sized, t)
-
-pub returns-then-is_read : goal.returns-then-is_read
-returns-then-is_read c =
-    read_is _ _ _ (sym c.next_field.ensures ∙ c.in-Whole.is) _ (sym c.is_read.ensures ∙ c.if-is_read.true) c.read_flags-flags.ensures
-
-pub returns-in-End : goal.returns-in-End
+pub returns-in_err-f : goal.returns-in_err-f
 unfolding next_read
-returns-in-End c = rw (sym c.next_field.ensures ∙ c.in-End.is)
+returns-in_err-f c =
+    let p = err_from_is_err_and c.from_residual.result c.from_residual.ensures.1 in
+    let cut : next_field c.args.run.now c.args.at ≡ Err c.in_err-f.field-0.0 = sym c.next_field.ensures ∙ c.in_err-f.was in
+    rw (p.1, p.2, cut)
 
-pub returns-in-Cut : goal.returns-in-Cut
+pub returns-in_default : goal.returns-in_default
 unfolding next_read
-returns-in-Cut c = rw (sym c.next_field.ensures ∙ c.in-Cut.is)
+returns-in_default c =
+    let ended : next_field c.args.run.now c.args.at ≡ Ok None = sym c.next_field.ensures ∙ c.in_ok-f.was ∙ ap Ok c.in_default.is in
+    rw ended
 
-pub returns-else-is_read : goal.returns-else-is_read
-returns-else-is_read c = no_read _ _ _ (sym c.next_field.ensures ∙ c.in-Whole.is) (sym c.is_read.ensures ∙ c.if-is_read.false)
-
-pub overflow_sub-read : goal.overflow_sub-read
-overflow_sub-read c = (let f = c.in-Whole.f in
-    leb-true 2 f.length (both_hold (eqb f.tag 0x30) (leb 2 f.length) (sym c.is_read.ensures ∙ c.if-is_read.true)).1)
-
-pub overflow_add-read : goal.overflow_add-read
-overflow_add-read c =
-    let f = c.in-Whole.f in
-    let flagged = leb-true 2 f.length (both_hold (eqb f.tag 0x30) (leb 2 f.length) (sym c.is_read.ensures ∙ c.if-is_read.true)).1 in
-    record { fits = omega (arith, flagged, (at_whole _ _ (sym c.next_field.ensures ∙ c.in-Whole.is)).within) }
+pub returns-then-not-is_read : goal.returns-then-not-is_read
+unfolding next_read
+returns-then-not-is_read c =
+    let here : next_field c.args.run.now c.args.at ≡ Ok (Some c.in-Some.f) = sym c.next_field.ensures ∙ c.in_ok-f.was ∙ ap Ok c.in-Some.is in
+    let other : read_field c.in-Some.f.tag c.in-Some.f.length ≡ false = sym c.is_read.ensures ∙ c.if-not-is_read.true in
+    rw (here, (at_whole _ _ here).sized, other)
 
 pub overflow_add-result : goal.overflow_add-result
-overflow_add-result c = record { fits = omega (arith, (at_whole _ _ (sym c.next_field.ensures ∙ c.in-Whole.is)).within) }
+overflow_add-result c =
+    let f = c.in-Some.f in
+    let here : next_field c.args.run.now c.args.at ≡ Ok (Some f) = sym c.next_field.ensures ∙ c.in_ok-f.was ∙ ap Ok c.in-Some.is in
+    let flagged = leb-true 2 f.length (both_hold (eqb f.tag 0x30) (leb 2 f.length) (sym c.is_read.ensures ∙ c.if-not-is_read.false)).1 in
+    record { fits = omega (arith, flagged, (at_whole _ _ here).within) }
+
+pub returns : goal.returns
+unfolding next_read
+returns c =
+    let here : next_field c.args.run.now c.args.at ≡ Ok (Some c.in-Some.f) = sym c.next_field.ensures ∙ c.in_ok-f.was ∙ ap Ok c.in-Some.is in
+    let one : read_field c.in-Some.f.tag c.in-Some.f.length ≡ true = sym c.is_read.ensures ∙ c.if-not-is_read.false in
+    rw (here, (at_whole _ _ here).sized, one, c.read_flags.ensures)

@@ -3,7 +3,7 @@ use mathlib.Core.Path.{◌≡◌}
 use Prim.Native.Nat.{◌-◌, ◌≤◌}
 use lib.ListN.{length, drop}
 use Rattle.molecule_encoding.specs.Format.{fields_fit}
-use Rattle.molecule_encoding.proofs.fields_fit.Given as goal
+use Rattle.molecule_encoding.proofs.check_fields.Given as goal
 
 abbrev pub invariant-loop-f : goal.invariant-loop-f
 invariant-loop-f l = (l.at ≤ length l.bytes) × (fields_fit l.last (drop l.at l.bytes) ≡ fields_fit 0 l.bytes)

@@ -1,0 +1,110 @@
+-- Laws of the value of a tag, and of where it is.
+--     find_none, find_here, find_past, find_next     by what begins at a place
+--     past             no field is below a tag that all come after
+--     place_there, value_there     a tag has a place, and a value, exactly where a field has the tag
+--     value_placed     what stands at the place of a tag's value is the value
+-- Assumes nothing.
+use mathlib.Core.Path.{◌≡◌, refl, sym, ap, ◌∙◌}
+use mathlib.Core.Bool.{Bool, true, false, cond, ◌||◌}
+use mathlib.Core.List.{List, [], ◌∷◌}
+use Prim.Native.Nat.{ℕ, ◌+◌, ◌<◌}
+use native.Mathlib.Omega.{arith}
+use borrow.Author.Tests.{eq-eqb, ne_eqb}
+use lib.Dec.{eqb}
+use lib.ListN.{length, drop}
+use Rattle.std.proofs.Common.{Option, Some, None}
+use Rattle.std.specs.Prelude.{is_some}
+use Rattle.lists.specs.Part.{part}
+use Rattle.refusals.proofs.Condition.{both_hold}
+use Rattle.fields.specs.Encoding.{Field, Fields, whole_fields, field_at}
+use Rattle.fields.specs.declared.FieldAt.{FieldAt}
+use Rattle.fields.proofs.Walk.{BeginsAt, along}
+use Rattle.molecule_encoding.specs.Format.{follows, ascend_after, ascending, has, value_of, place_from, place_of}
+use Rattle.molecule_encoding.proofs.Order.{not_below, still_ascending}
+
+-- Where fields ascend after a tag, none has one below it.
+pub past : (last tag at : ℕ) (fs : List Field) → tag < last → ascend_after last fs ≡ true → place_from at tag fs ≡ None
+unfolding ascend_after place_from
+past last tag at [] less e = refl
+past last tag at (f ∷ fs) less e =
+    let (here, later) = both_hold (follows last f.tag) (ascend_after f.tag fs) e in
+    let above : tag < f.tag = omega (arith, not_below last f.tag here) in
+    rw (ne_eqb f.tag tag (λ same. omega arith)) (past f.tag tag (at + 3 + length f.value) fs above later)
+
+module _ (bytes : List ℕ) (at tag : ℕ) where
+  pub find_none : whole_fields (drop at bytes) ≡ [] → place_from at tag (whole_fields (drop at bytes)) ≡ None
+  unfolding place_from
+  find_none e = rw e
+
+  module _ {f : FieldAt} (b : BeginsAt bytes at f) where
+    abbrev rest : List Field
+    rest = whole_fields (drop (f.offset + f.length) bytes)
+
+    pub place_opened : place_from at tag (whole_fields (drop at bytes)) ≡ cond (eqb f.tag tag) (Some f) (place_from (f.offset + f.length) tag rest)
+    unfolding place_from
+    place_opened =
+        let start : at + 3 ≡ f.offset = sym b.header in
+        ap (λ (x : Fields). place_from at tag x.whole_ones) b.fields_are ∙ rw (start, b.sized)
+
+    pub find_here : f.tag ≡ tag → place_from at tag (whole_fields (drop at bytes)) ≡ Some f
+    find_here e = place_opened ∙ rw (eq-eqb _ _ e)
+
+    pub find_next : (f.tag ≡ tag → ⊥) → place_from at tag (whole_fields (drop at bytes)) ≡ place_from (f.offset + f.length) tag rest
+    find_next n = place_opened ∙ rw (ne_eqb _ _ n)
+
+    ascend_parts : ascending (whole_fields (drop at bytes)) ≡ true → ascend_after f.tag rest ≡ true
+    unfolding ascend_after
+    ascend_parts e = (both_hold (follows 0 f.tag) (ascend_after f.tag rest) (sym (ap (λ (x : Fields). ascending x.whole_ones) b.fields_are) ∙ e)).1
+
+    pub find_past : ascending (whole_fields (drop at bytes)) ≡ true → tag < f.tag → place_from at tag (whole_fields (drop at bytes)) ≡ None
+    find_past e less = find_next (λ same. omega arith) ∙ past f.tag tag (f.offset + f.length) rest less (ascend_parts e)
+
+    pub ascending_next : ascending (whole_fields (drop at bytes)) ≡ true → ascending rest ≡ true
+    ascending_next e = still_ascending f.tag rest (ascend_parts e)
+
+some_or : {A : Type 0} (b c : Bool) (x : A) (other : Option A) → is_some other ≡ c → is_some (cond b (Some x) other) ≡ (b || c)
+some_or true c x other e = refl
+some_or false c x other e = e
+
+pub place_there : (at tag : ℕ) (fs : List Field) → is_some (place_from at tag fs) ≡ has tag fs
+unfolding place_from has
+place_there at tag [] = refl
+place_there at tag (f ∷ fs) = some_or (eqb f.tag tag) (has tag fs) _ _ (place_there (at + 3 + length f.value) tag fs)
+
+pub value_there : (tag : ℕ) (fs : List Field) → is_some (value_of tag fs) ≡ has tag fs
+unfolding value_of has
+value_there tag [] = refl
+value_there tag (f ∷ fs) = some_or (eqb f.tag tag) (has tag fs) _ _ (value_there tag fs)
+
+-- What stands at a place.
+abbrev pub value_at : List ℕ → Option FieldAt → Option (List ℕ)
+value_at bytes None = None
+value_at bytes (Some f) = Some (part f.offset f.length bytes)
+
+module _ (bytes : List ℕ) (tag : ℕ) where
+  -- Of the fields from a place on.
+  abbrev Holds : ℕ → Type 0
+  Holds at = value_at bytes (place_from at tag (whole_fields (drop at bytes))) ≡ value_of tag (whole_fields (drop at bytes))
+
+  holds_none : (at : ℕ) → whole_fields (drop at bytes) ≡ [] → Holds at
+  unfolding place_from value_of
+  holds_none at e = rw e
+
+  holds_whole : (at : ℕ) (f : FieldAt) → BeginsAt bytes at f → Holds (f.offset + f.length) → Holds at
+  unfolding value_of
+  holds_whole at f b later =
+      rw (place_opened bytes at tag b) (go (eqb f.tag tag) later)
+      ∙ sym (ap (λ (x : Fields). value_of tag x.whole_ones) b.fields_are)
+    where
+      rest : List Field
+      rest = whole_fields (drop (f.offset + f.length) bytes)
+
+      go :
+          (here : Bool)
+          → Holds (f.offset + f.length)
+          → value_at bytes (cond here (Some f) (place_from (f.offset + f.length) tag rest)) ≡ cond here (Some (field_at bytes f).value) (value_of tag rest)
+      go true later = refl
+      go false later = later
+
+  pub value_placed : value_at bytes (place_of tag (whole_fields bytes)) ≡ value_of tag (whole_fields bytes)
+  value_placed = along bytes Holds holds_none holds_whole 0

@@ -1,0 +1,7 @@
+-- `molecule_strand::strand_of_numbers` meets its contract, where the strand is absent. Assumes nothing.
+use Rattle.methylation.specs.Arrays.{evidence_in}
+use Rattle.molecule_strand.proofs.Strand.{no_strand}
+use Rattle.molecule_strand.proofs.strand_of_numbers.Goals as goal
+
+pub returns-in-None : goal.returns-in-None
+returns-in-None c = rw c.in-None.is (no_strand c.args.depths.now c.args.errors.now (evidence_in c.args.evidence))
