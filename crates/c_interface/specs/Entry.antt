@@ -1,11 +1,13 @@
 -- What the entries for C give, document 01's forms for the viewer: the library's calls from bytes to bytes, with numbers for what is
 -- there or not and for an answer.
-use Rattle.std.specs.Prelude.{ℕ, ◌≡◌, Bool, ◌&&◌, List, ◌∷◌}
-use Rattle.lists.specs.Output.{answer}
-use Rattle.refusals.specs.Refusal.{◌if◌, refusal, Broken}
+use Rattle.std.specs.Prelude.{Option, Result, ℕ, ◌≡◌, Bool, ◌&&◌, List, ◌∷◌}
+use Rattle.refusals.specs.declared.Refusal.{Refusal}
+use Rattle.refusals.specs.declared.Refusal.TheVariants.{Broken}
+use Rattle.refusals.specs.Refusal.{◌if◌, refused}
+use Rattle.refusals.specs.Outcome.{answer}
 use Rattle.replies.specs.Choices.{yes}
 use Rattle.duplex_kind.specs.Kind.{kind_of}
-use Rattle.duplex_kind.specs.declared.DuplexConsensus.TheVariants.{Refused}
+use Rattle.duplex_kind.specs.declared.DuplexConsensus.{DuplexConsensus}
 use Rattle.duplex_reply.specs.Reply.{record_for}
 use Rattle.duplex_reply.specs.declared.DuplexRecord.{DuplexRecord}
 use Rattle.molecule_strand.specs.Strand.{StrandBytes, annotation_of, strand_bytes, strand_of}
@@ -21,11 +23,16 @@ abbrev pub strand_given : ℕ → ℕ → ℕ → List ℕ → List ℕ → List
 strand_given present annotated pattern bases quals depths errors evidence =
     seen (strand_bytes (yes present) (annotation_of (told present annotated) pattern) bases quals depths errors evidence)
 
--- Row 13 for a pattern, before all that refuses the library's call.
-abbrev pub entry_refused : Bool → StrandBytes → StrandBytes → Bool → List ℕ → RecordBytes → ℕ
-entry_refused wrong a b listed run out = refusal ((Broken if wrong) ∷ bytes_faults a b listed run (as_arrays out))
+-- Refusal 13 for a pattern, before all that refuses the library's call.
+abbrev pub entry_refused : Bool → StrandBytes → StrandBytes → Bool → List ℕ → RecordBytes → Option Refusal
+entry_refused wrong a b listed run out = refused ((Broken if wrong) ∷ bytes_faults a b listed run (as_arrays out))
 
--- What `gedrashiw_duplex_consensus` answers and leaves, where a pattern is wrong or not.
+-- What the combination answers and leaves, where a pattern is wrong or not.
+pub record ConsensusBy (wrong : Bool) (a b : StrandBytes) (listed : Bool) (run : List ℕ) (before now : RecordBytes) (r : Result (Option DuplexConsensus) Refusal) : Type 0 where
+  pub answered : r ≡ answer (entry_refused wrong a b listed run before) (kind_of (strand_of a) (strand_of b))
+  pub outputs : LeavesBytes (entry_refused wrong a b listed run before) (as_bytes (bytes_record a b listed run)) before now
+
+-- The same with the answer as numbers: what `gedrashiw_duplex_consensus` answers and leaves.
 pub record ConsensusEntry (wrong : Bool) (a b : StrandBytes) (listed : Bool) (run : List ℕ) (before now : RecordBytes) (r : DuplexRecord) : Type 0 where
-  pub answered : r ≡ record_for (answer Refused (entry_refused wrong a b listed run before) (kind_of (strand_of a) (strand_of b)))
+  pub answered : r ≡ record_for (answer (entry_refused wrong a b listed run before) (kind_of (strand_of a) (strand_of b)))
   pub outputs : LeavesBytes (entry_refused wrong a b listed run before) (as_bytes (bytes_record a b listed run)) before now

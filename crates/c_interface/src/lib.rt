@@ -1,22 +1,84 @@
 // Entry points for C programs: numbers and byte slices, and answers as numbers. An array of wider numbers is passed as its bytes,
 // low byte first. This crate owns the numbers for what is there and for a pattern; the calls are c_metrics's and c_consensus's. Uses
-// refusals, molecule_strand, duplex_kind, duplex_reply, c_metrics and c_consensus.
+// refusals, duplex_kind, duplex_reply, molecule_strand, c_metrics and c_consensus.
 #![tactic(auto)]
 
-ghost use Rattle.std.specs.Prelude.{◌||◌};
+ghost use Rattle.std.specs.Prelude.{◌≡◌, ◌||◌, is_some};
 ghost use Rattle.replies.specs.Choices.{yes};
 ghost use Rattle.duplex_metrics.specs.Metrics.{input};
-ghost use Rattle.molecule_strand.specs.Strand.{wrong_pattern};
+ghost use Rattle.molecule_strand.specs.Strand.{encoded_in, wrong_pattern};
+ghost use Rattle.molecule_errors.specs.Run.{run_in};
+ghost use Rattle.molecule_consensus.specs.Bytes.{seen as looked_at};
 ghost use Rattle.c_record.specs.Outputs.{record_bytes};
 ghost use Rattle.c_metrics.specs.Bytes.{seen, MetricsEntry};
-ghost use Rattle.c_interface.specs.Entry.{told, strand_given, ConsensusEntry};
+ghost use Rattle.c_interface.specs.Entry.{told, strand_given, ConsensusBy, ConsensusEntry};
 
 use c_consensus::duplex_consensus_bytes;
-use c_metrics::metrics_of_bytes;
+use c_metrics::{CountsBytes, metrics_of_bytes};
 use duplex_kind::DuplexConsensus;
-use duplex_reply::{DuplexRecord, record_for};
-use molecule_strand::{annotation_of, wrong_pattern};
-use refusals::BROKEN;
+use duplex_reply::DuplexRecord;
+use molecule_strand::{EncodedStrand, annotation_of, seen_u8, wrong_pattern};
+use refusals::{Refusal, refuse};
+
+// Whether a pattern is looked at: that of a strand that is there and annotated.
+pub fn told(present: u8, annotated: u8) -> bool
+    ensures { result ≡ told present annotated }
+{
+    (present != 0) & (annotated != 0)
+}
+
+// A strand as C gives it, as far as it is looked at: nothing of one that is not there, and evidence only with an annotation.
+#[tactic(auto, unfolding(lists::specs::Part::only_if))]
+pub fn strand_given<'a>(
+    present: u8,
+    annotated: u8,
+    pattern: u8,
+    s: EncodedStrand<'a>,
+) -> Option<EncodedStrand<'a>>
+    ensures { encoded_in result ≡ strand_given present annotated pattern s.entry.bases.now s.entry.quals.now s.entry.depths.now s.entry.errors.now s.entry.evidence.now }
+{
+    if present == 0 {
+        return None;
+    }
+    let annotation = annotation_of(annotated != 0, pattern);
+    let evidence = seen_u8(annotation.is_some(), s.evidence);
+    Some(EncodedStrand {
+        annotation,
+        evidence,
+        ..s
+    })
+}
+
+// The combination, after row 13 for a pattern.
+// Lent outputs stay apart: the borrow checker has no rule for a struct of them that is passed on.
+fn consensus(
+    wrong: bool,
+    a: Option<EncodedStrand>,
+    b: Option<EncodedStrand>,
+    run: Option<&[u8]>,
+    bases_out: &mut [u8],
+    quals_out: &mut [u8],
+    errors_out: &mut [u8],
+    a_evidence_out: &mut [u8],
+    b_evidence_out: &mut [u8],
+) -> Result<Option<DuplexConsensus>, Refusal>
+    ensures { ConsensusBy wrong (looked_at (encoded_in a.entry)) (looked_at (encoded_in b.entry)) (is_some run.entry) (run_in run.entry)
+        (record_bytes bases_out.old quals_out.old errors_out.old a_evidence_out.old b_evidence_out.old)
+        (record_bytes bases_out.new quals_out.new errors_out.new a_evidence_out.new b_evidence_out.new)
+        result }
+{
+    refuse(wrong, Refusal::Broken)?;
+    duplex_consensus_bytes(
+        a,
+        b,
+        run,
+        bases_out,
+        quals_out,
+        errors_out,
+        a_evidence_out,
+        b_evidence_out,
+    )
+}
 
 // The duplex record of two strands, document 01's combination, as bytes. Of a strand that is not there nothing is looked at, and its
 // pattern and evidence only with an annotation; reads are a run of whole fields 30, looked at where they are listed. What is there,
@@ -57,30 +119,29 @@ pub extern "C" fn gedrashiw_duplex_consensus(
         (record_bytes bases_out.new quals_out.new errors_out.new a_evidence_out.new b_evidence_out.new)
         result }
 {
-    let a_there = a_present != 0;
-    let b_there = b_present != 0;
-    let a_told = a_there & (a_annotated != 0);
-    let b_told = b_there & (b_annotated != 0);
-    if wrong_pattern(a_told, a_pattern) | wrong_pattern(b_told, b_pattern) {
-        return record_for(DuplexConsensus::Refused(BROKEN));
-    }
-    record_for(duplex_consensus_bytes(
-        a_there,
-        annotation_of(a_told, a_pattern),
-        a_bases,
-        a_quals,
-        a_depths,
-        a_errors,
-        a_evidence,
-        b_there,
-        annotation_of(b_told, b_pattern),
-        b_bases,
-        b_quals,
-        b_depths,
-        b_errors,
-        b_evidence,
-        listed != 0,
-        reads,
+    let wrong = wrong_pattern(told(a_present, a_annotated), a_pattern)
+        | wrong_pattern(told(b_present, b_annotated), b_pattern);
+    let a = EncodedStrand {
+        annotation: None,
+        bases: a_bases,
+        quals: a_quals,
+        depths: a_depths,
+        errors: a_errors,
+        evidence: a_evidence,
+    };
+    let b = EncodedStrand {
+        annotation: None,
+        bases: b_bases,
+        quals: b_quals,
+        depths: b_depths,
+        errors: b_errors,
+        evidence: b_evidence,
+    };
+    DuplexRecord::from(consensus(
+        wrong,
+        strand_given(a_present, a_annotated, a_pattern, a),
+        strand_given(b_present, b_annotated, b_pattern, b),
+        (listed != 0).then_some(reads),
         bases_out,
         quals_out,
         errors_out,
@@ -105,14 +166,17 @@ pub extern "C" fn gedrashiw_metrics(
 ) -> u8
     ensures { MetricsEntry (seen (input a_depths.now a_errors.now (yes second) b_depths.now b_errors.now bases.now errors.now)) out.old out.new result }
 {
-    metrics_of_bytes(
-        a_depths,
-        a_errors,
-        second != 0,
-        b_depths,
-        b_errors,
-        bases,
-        errors,
-        out,
-    )
+    let a = CountsBytes {
+        depths: a_depths,
+        errors: a_errors,
+    };
+    let b = CountsBytes {
+        depths: b_depths,
+        errors: b_errors,
+    };
+    let b = (second != 0).then_some(b);
+    match metrics_of_bytes(a, b, bases, errors, out) {
+        Ok(()) => 0,
+        Err(refusal) => refusal.number(),
+    }
 }

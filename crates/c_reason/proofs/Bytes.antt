@@ -1,214 +1,148 @@
--- What is promised of the entry, by its test of the byte counts and what the calls below answered.
---     of_counts, of_shown     a strand by what the code has of it
---     Tested          what its test of the byte counts says; tested: and that it says so
---     few_depths      depths that row 7 does not refuse fit an array
---     turned_down     refused by row 13 or 7
---     passed_on       passed by them: what is said of the strands that the bytes stand for
+-- What is promised of the entry and of its parts.
+--     few                     a strand that row 7 does not refuse has depths that fit an array
+--     kind_refused, kind_told     the record's kind, by the early rows and by the depths that were read
+--     reason_refused          what is said of a position where there is no kind
+--     entry_told              what is said of the strands as far as they are looked at
 -- Assumes nothing.
 use mathlib.Core.Path.{◌≡◌, refl, ap, ◌∙◌}
 use mathlib.Core.Bool.{Bool, true, false, cond, ◌&&◌, ◌||◌}
-use mathlib.Core.List.{List, []}
+use mathlib.Core.List.{List, [], ◌∷◌}
 use Prim.Native.Nat.{ℕ, ◌/◌, ◌≤◌}
 use native.Mathlib.Omega.{arith}
-use lib.ListN.{length}
-use Rattle.lists.specs.Output.{unless, answer}
+use lib.ListN.{length, take, length-replicate}
+use Rattle.std.proofs.Common.{Option, Some, None, Result, Ok, Err}
 use Rattle.lists.specs.Part.{only_if}
-use Rattle.refusals.specs.Refusal.{refusal}
+use Rattle.refusals.specs.declared.Refusal.{Refusal}
+use Rattle.refusals.specs.declared.Refusal.TheVariants.{Broken, TooLong, Ragged, TooManyReads, PartOutside}
+use Rattle.refusals.specs.Refusal.{◌if◌, refused, too_many}
+use Rattle.refusals.specs.Outcome.{answer, refused_if}
 use Rattle.refusals.proofs.Condition.{neither}
 use Rattle.methylation.specs.Methylation.{is_annotated}
-use Rattle.methylation.specs.declared.Annotation.{Annotation}
-use Rattle.methylation.specs.declared.Annotation.TheVariants.{Absent, Of}
-use Rattle.byte_numbers.specs.Bytes.{number_of, words16}
-use Rattle.byte_numbers.proofs.Groups.{length_by_group}
-use Rattle.molecule_evidence.specs.Evidence.{mark_in, count_in, marks_of}
-use Rattle.molecule_strand.specs.Rows.{misfit_in, numbers_in, long_in, early_faults}
-use Rattle.molecule_strand.specs.Strand.{StrandBytes, strand_bytes, strand_of}
-use Rattle.molecule_strand.specs.declared.ByteCounts.{ByteCounts}
-use Rattle.molecule_consensus.specs.Bytes.{seen, misfit, broken}
+use Rattle.methylation.specs.declared.ConversionPattern.{ConversionPattern}
+use Rattle.byte_numbers.specs.Bytes.{number_of, words16, odd_count}
+use Rattle.byte_numbers.proofs.Groups.{length_by_group, read_front}
+use Rattle.molecule_evidence.specs.Evidence.{mark_in, count_in}
+use Rattle.molecule_strand.specs.Rows.{misfit_in, long_in, numbers_in, early_faults}
+use Rattle.molecule_strand.specs.Strand.{StrandBytes, strand_bytes, encoded_in, strand_of, ReadTo}
+use Rattle.molecule_strand.specs.declared.EncodedStrand.{EncodedStrand}
+use Rattle.molecule_strand.proofs.Strand.{zeros}
+use Rattle.molecule_consensus.specs.Bytes.{seen, misfit}
 use Rattle.molecule_consensus.proofs.Few.{not_long}
-use Rattle.duplex_kind.specs.Kind.{Strand, given, long, uneven, kind_of, given_faults, kind_given}
+use Rattle.duplex_kind.specs.Kind.{Given, given, long, uneven, kind_of, kind_given}
 use Rattle.duplex_kind.specs.declared.DuplexConsensus.{DuplexConsensus}
-use Rattle.duplex_kind.specs.declared.DuplexConsensus.TheVariants.{Refused as RefusedRecord}
-use Rattle.duplex_kind.specs.declared.GivenStrand.{GivenStrand}
-use Rattle.duplex_reason.specs.Record.{shown_in, shown_at, reason_in, reason_of}
+use Rattle.duplex_reason.specs.Record.{reason_told}
 use Rattle.duplex_reason.specs.declared.NoCallReason.{NoCallReason}
-use Rattle.duplex_reason.specs.declared.NoCallReason.TheVariants.{Refused}
 use Rattle.duplex_reason.specs.declared.Shown.{Shown}
-use Rattle.rust_reason.specs.Reply.{reason_for}
-use Rattle.rust_reason.specs.declared.Reason.{Reason}
-use Rattle.c_reason.specs.Parts.{counts_seen, given_in}
+use Rattle.c_reason.specs.Parts.{given_by, kind_by, reason_by}
 use Rattle.c_reason.specs.Reason.{bytes_reason}
 
-abbrev byte_counts : StrandBytes → ByteCounts
-byte_counts s = record {
-  present = s.present;
-  annotation = s.annotation;
-  bases = length s.bases;
-  quals = length s.quals;
-  depths = length s.depths;
-  errors = length s.errors;
-  evidence = length s.evidence;
-}
+-- What is given of a strand, by its byte counts and its depths.
+abbrev given_bytes : StrandBytes → Given
+given_bytes s = record { present = s.present; annotation = s.annotation; lengths = numbers_in s; depths = words16 s.depths }
 
--- What is looked at, by its byte counts: the strand's misfit, and what is given of it.
-counts_seen_lem : (present : Bool) (annotation : Annotation) (bases quals depths errors evidence : List ℕ) →
-    counts_seen present annotation (length bases) (length quals) (length depths) (length errors) (length evidence)
-    ≡ byte_counts (seen (strand_bytes present annotation bases quals depths errors evidence))
-unfolding only_if
-counts_seen_lem false annotation bases quals depths errors evidence = refl
-counts_seen_lem true Absent bases quals depths errors evidence = refl
-counts_seen_lem true (Of pattern) bases quals depths errors evidence = refl
-
-same_misfit : (present : Bool) (annotation : Annotation) (bases quals depths errors evidence : List ℕ) →
-    let s = seen (strand_bytes present annotation bases quals depths errors evidence) in
-    misfit_in (byte_counts s) ≡ misfit s
-unfolding only_if
-same_misfit false annotation bases quals depths errors evidence = refl
-same_misfit true Absent bases quals depths errors evidence = refl
-same_misfit true (Of pattern) bases quals depths errors evidence = refl
-
-same_given : (s : StrandBytes) → given_in (byte_counts s) ≡ given (strand_of s)
-unfolding strand_of numbers_in
+same_given : (s : StrandBytes) → given_bytes s ≡ given (strand_of s)
+unfolding strand_of
 same_given s =
     rw
     (length_by_group 2 number_of s.depths, length_by_group 2 number_of s.errors, length_by_group 9 mark_in s.evidence, length_by_group 9 (count_in 1) s.evidence, length_by_group 9 (count_in 5) s.evidence)
 
-of_given : (s : StrandBytes) {x : ByteCounts} {g : GivenStrand} → x ≡ byte_counts s → g ≡ given_in x → g ≡ given (strand_of s)
-of_given s e f = f ∙ rw e (same_given s)
+few : (s : Option EncodedStrand) → long_in (encoded_in s) ≡ false → length (encoded_in s).depths / 2 ≤ 1024
+few None h = omega arith
+few (Some s) h = (not_long (is_annotated s.annotation) (numbers_in (encoded_in (Some s))) h).0.1.1.0
 
--- A strand's depths that row 7 does not refuse, and those of an absent strand.
-few_seen : (present : Bool) (annotation : Annotation) (bases quals depths errors evidence : List ℕ) →
-    let s = seen (strand_bytes present annotation bases quals depths errors evidence) in
-    long_in (byte_counts s) ≡ false → length (only_if present depths) / 2 ≤ 1024
-unfolding only_if numbers_in
-few_seen false annotation bases quals depths errors evidence h = omega arith
-few_seen true annotation bases quals depths errors evidence h = (not_long (is_annotated annotation) _ h).0.1.1.0
+-- Depths that fit are read as they are.
+read :
+    (s : StrandBytes) {bytes now : List ℕ} {g : Given}
+    → length s.depths / 2 ≤ 1024
+    → bytes ≡ s.depths
+    → ReadTo (words16 bytes) zeros now
+    → g ≡ given_by s now
+    → g ≡ given (strand_of s)
+read s few e h g =
+    let whole : take (length s.depths / 2) _ ≡ words16 s.depths = read_front 2 number_of s.depths zeros (omega (arith, few, length-replicate {A = ℕ} 1024 0)) (rw e at h) in
+    g ∙ ap (λ (l : List ℕ). record { present = s.present; annotation = s.annotation; lengths = numbers_in s; depths = l }) whole ∙ same_given s
 
--- The tests of the two rows, in the words of the code and of the promise.
-two_rows :
-    {p p' q q' l l' m m' : Bool} (w : Bool)
-    → p ≡ p'
-    → q ≡ q'
-    → l ≡ l'
-    → m ≡ m'
-    → ◌≡◌ {A = ℕ} (cond (p || (q || w)) 13 (cond (l || m) 7 0)) (cond (w || (p' || (q' || false))) 13 (cond (l' || m') 7 0))
-two_rows {p} {q = q} {l = l} {m = m} w e f g h = rw (← e, ← f, ← g, ← h, turned p q w)
+-- The early rows, and the others behind them.
+passed : (p l : Bool) {u : Unit {0}} → answer {A = Unit {0}} (refused ((Broken if p) ∷ (TooLong if l) ∷ [])) tt ≡ Ok u → (p ≡ false) × (l ≡ false)
+passed true l e = absurd cc
+passed false true e = absurd cc
+passed false false e = (refl, refl)
+
+turned_down :
+    (p l u : Bool) (made : Option DuplexConsensus) {e : Refusal}
+    → answer {A = Unit {0}} (refused ((Broken if p) ∷ (TooLong if l) ∷ [])) tt ≡ Err e
+    → Err e ≡ cond p (Err Broken) (answer (refused ((TooLong if l) ∷ (Ragged if u) ∷ (TooManyReads if (false && too_many (0 ∷ []))) ∷ (PartOutside if (false && false)) ∷ [])) made)
+turned_down true l u made h = cc
+turned_down false true u made h = cc
+turned_down false false u made h = absurd cc
+
+pub kind_refused : (a b : StrandBytes) {e : Refusal} → answer {A = Unit {0}} (refused (early_faults a b)) tt ≡ Err e → Err e ≡ kind_by a b
+kind_refused a b {e} h =
+    let A = given (strand_of a) in
+    let B = given (strand_of b) in
+    let told : answer {A = Unit {0}} (refused ((Broken if (misfit_in a || misfit_in b)) ∷ (TooLong if (long A || long B)) ∷ [])) tt ≡ Err e = rw (ap long (same_given a), ap long (same_given b)) at h in
+    turned_down (misfit_in a || misfit_in b) (long A || long B) (uneven A || uneven B) (kind_of (strand_of a) (strand_of b)) told
+
+pub kind_told :
+    (a b : Option EncodedStrand) {a_bytes b_bytes a_now b_now : List ℕ} {g h : Given} {u : Unit {0}} {r : Result (Option DuplexConsensus) Refusal}
+    → answer {A = Unit {0}} (refused (early_faults (encoded_in a) (encoded_in b))) tt ≡ Ok u
+    → a_bytes ≡ (encoded_in a).depths
+    → b_bytes ≡ (encoded_in b).depths
+    → ReadTo (words16 a_bytes) zeros a_now
+    → ReadTo (words16 b_bytes) zeros b_now
+    → g ≡ given_by (encoded_in a) a_now
+    → h ≡ given_by (encoded_in b) b_now
+    → r ≡ kind_given g h false 0 false
+    → r ≡ kind_by (encoded_in a) (encoded_in b)
+kind_told a b early e f x y g h told =
+    let (whole, short) = passed (misfit_in (encoded_in a) || misfit_in (encoded_in b)) (long_in (encoded_in a) || long_in (encoded_in b)) early in
+    let (short_a, short_b) = neither (long_in (encoded_in a)) (long_in (encoded_in b)) short in
+    let given_a = read (encoded_in a) (few a short_a) e x g in
+    let given_b = read (encoded_in b) (few b short_b) f y h in
+    rw whole (rw (given_a, given_b) at told)
+
+-- Where no pattern is wrong, and the kind is refused.
+pub reason_refused : (wrong : Bool) (a b : StrandBytes) (i : ℕ) {e : Refusal} {u : Unit {0}} → refused_if wrong Broken ≡ Ok u → kind_by a b ≡ Err e → Err e ≡ reason_by wrong a b i
+reason_refused true a b i f h = absurd cc
+reason_refused false a b i f h = go (misfit_in a || misfit_in b) _ _ _ h
   where
-    turned : (p q w : Bool) → (p || (q || w)) ≡ (w || (p || (q || false)))
-    turned true q true = refl
-    turned true q false = refl
-    turned false true true = refl
-    turned false true false = refl
-    turned false false true = refl
-    turned false false false = refl
+    go :
+        (m : Bool) (made : Result (Option DuplexConsensus) Refusal) (s t : Shown) {e : Refusal}
+        → cond m (Err Broken) made ≡ Err e
+        → Err e ≡ cond m (Err Broken) (reason_told made s t i)
+    go true made s t h = cc
+    go false (Ok made) s t h = absurd cc
+    go false (Err row) s t h = cc
 
--- A refusal by one of them is the answer, whatever comes after.
-refused : (x l u : Bool) (made : DuplexConsensus) (s t : Shown) (i : ℕ) {n : ℕ}
-    → n ≡ cond x 13 (cond l 7 0)
-    → (n ≡ 0 → ⊥)
-    → Refused n ≡ cond x (Refused 13) (reason_in (answer RefusedRecord (cond l 7 (cond u 8 0)) made) s t i)
-unfolding reason_in answer unless
-refused true l u made s t i e h = ap Refused e
-refused false true u made s t i e h = ap Refused e
-refused false false u made s t i e h = absurd (h e)
+or_more : (x y z : Bool) → ((x || y) || z) ≡ (x || (y || z))
+or_more true y z = refl
+or_more false y z = refl
 
-neither_row : (x l : Bool) {n : ℕ} → n ≡ cond x 13 (cond l 7 0) → n ≡ 0 → (x ≡ false) × (l ≡ false)
-neither_row true l e z = absurd (omega arith)
-neither_row false true e z = absurd (omega arith)
-neither_row false false e z = (refl, refl)
+same_misfit :
+    (present : Bool) (annotation : Option ConversionPattern) (bases quals depths errors evidence : List ℕ)
+    → (let s = seen (strand_bytes present annotation bases quals depths errors evidence) in
+    misfit_in s ≡ misfit s)
+unfolding only_if
+same_misfit false annotation bases quals depths errors evidence = refl
+same_misfit true None bases quals depths errors evidence = or_more (odd_count (length depths)) (odd_count (length errors)) false
+same_misfit true (Some pattern) bases quals depths errors evidence = or_more (odd_count (length depths)) (odd_count (length errors)) _
 
--- What is said of two strands, by what the calls answered.
-told :
-    (a b : StrandBytes) (i : ℕ) {g h : GivenStrand} {kind : DuplexConsensus} {j k : Shown} {answer : NoCallReason}
-    → g ≡ given (strand_of (seen a))
-    → h ≡ given (strand_of (seen b))
-    → kind ≡ kind_given g (words16 (only_if g.present a.depths)) h (words16 (only_if h.present b.depths)) false 0 false
-    → j ≡ shown_at (strand_of (seen a)) i
-    → k ≡ shown_at (strand_of (seen b)) i
-    → answer ≡ reason_in kind j k i
-    → answer ≡ reason_of (strand_of (seen a)) (strand_of (seen b)) i
-unfolding reason_of strand_of
-told a b i e1 e2 e3 e4 e5 e6 =
-    let made = rw (e1, e2) at e3 in
-    rw (← made, ← e4, ← e5) e6
+or_none : (x y : Bool) → (x || y) ≡ (x || (y || false))
+or_none true y = refl
+or_none false true = refl
+or_none false false = refl
 
--- Each strand by what the code has of it: its annotation, its counts, and what it shows at a position.
-module _ (present : Bool) {told annotation : Annotation} (bases quals depths errors evidence : List ℕ) (e : told ≡ annotation) where
-  abbrev looked : StrandBytes
-  looked = seen (strand_bytes present annotation bases quals depths errors evidence)
-
-  pub of_counts : {x : ByteCounts} → x ≡ counts_seen present told (length bases) (length quals) (length depths) (length errors) (length evidence) → x ≡ byte_counts looked
-  of_counts f = f ∙ rw e (counts_seen_lem present annotation bases quals depths errors evidence)
-
-  pub of_shown : (i : ℕ) {x : Shown} → x ≡ shown_in told (only_if present bases) (only_if present quals) (marks_of (only_if (present && is_annotated told) evidence)) i → x ≡ shown_at (strand_of looked) i
-  unfolding strand_of
-  of_shown i f = f ∙ rw e
-
--- What the code's test of the byte counts, whose number is n, says of the strands a and b, as far as they are looked at.
-pub record Tested (a b : StrandBytes) (wrong : Bool) (x y : ByteCounts) (n : ℕ) : Type 0 where
-  pub of_a : x ≡ byte_counts (seen a)
-  pub of_b : y ≡ byte_counts (seen b)
-  pub number : n ≡ cond (wrong || broken (seen a) (seen b) false []) 13 (cond (long (given (strand_of (seen a))) || long (given (strand_of (seen b)))) 7 0)
-
--- The patterns' tests are p and q, of which the code has s and t.
-pub tested :
-    (a b : StrandBytes) {p q s t : Bool} {x y : ByteCounts} {n : ℕ}
+-- The patterns' tests p and q, of which the code has s and t, and the strands a and b as far as they are looked at.
+pub entry_told :
+    (p q : Bool) (a b : StrandBytes) (i : ℕ) {s t : Bool} {x y : StrandBytes} {r : Result NoCallReason Refusal}
     → s ≡ p
     → t ≡ q
-    → x ≡ byte_counts (seen a)
-    → y ≡ byte_counts (seen b)
-    → n ≡ refusal (early_faults x y (s || t))
-    → Tested a b (p || q) x y n
-unfolding early_faults refusal broken
-tested a b {p} {q} first second of_a of_b e = record {
-  of_a = of_a;
-  of_b = of_b;
-  number =
-      rw (of_a, of_b, first, second) at e
-      ∙ two_rows (p || q)
-      (same_misfit a.present a.annotation a.bases a.quals a.depths a.errors a.evidence)
-      (same_misfit b.present b.annotation b.bases b.quals b.depths b.errors b.evidence)
-      (ap long (same_given (seen a)))
-      (ap long (same_given (seen b)));
-}
-
-module _ {a b : StrandBytes} {wrong : Bool} {x y : ByteCounts} {n : ℕ} (t : Tested a b wrong x y n) where
-  abbrev A : Strand
-  A = strand_of (seen a)
-
-  abbrev B : Strand
-  B = strand_of (seen b)
-
-  abbrev is_broken : Bool
-  is_broken = wrong || broken (seen a) (seen b) false []
-
-  abbrev is_long : Bool
-  is_long = long (given A) || long (given B)
-
-  pub few_depths : {g h : GivenStrand} → n ≡ 0 → g ≡ given_in x → h ≡ given_in y → (length (only_if g.present a.depths) / 2 ≤ 1024) × (length (only_if h.present b.depths) / 2 ≤ 1024)
-  unfolding strand_of
-  few_depths z e f =
-      let (short_a, short_b) = neither (long (given A)) (long (given B)) (neither_row is_broken is_long t.number z).1 in
-      let few_a = few_seen a.present a.annotation a.bases a.quals a.depths a.errors a.evidence (ap long (same_given (seen a)) ∙ short_a) in
-      let few_b = few_seen b.present b.annotation b.bases b.quals b.depths b.errors b.evidence (ap long (same_given (seen b)) ∙ short_b) in
-      rw (of_given (seen a) t.of_a e, of_given (seen b) t.of_b f) (few_a, few_b)
-
-  pub turned_down : (i : ℕ) {r : Reason} → (n ≡ 0 → ⊥) → r ≡ reason_for (Refused n) → r ≡ reason_for (bytes_reason wrong (seen a) (seen b) i)
-  unfolding reason_of kind_given given_faults refusal
-  turned_down i h f = f ∙ ap reason_for (refused is_broken is_long (uneven (given A) || uneven (given B)) (kind_of A B) (shown_at A i) (shown_at B i) i t.number h)
-
-  pub passed_on :
-      (i : ℕ) {g h : GivenStrand} {kind : DuplexConsensus} {j k : Shown} {answer : NoCallReason} {r : Reason}
-      → n ≡ 0
-      → g ≡ given_in x
-      → h ≡ given_in y
-      → kind ≡ kind_given g (words16 (only_if g.present a.depths)) h (words16 (only_if h.present b.depths)) false 0 false
-      → j ≡ shown_at A i
-      → k ≡ shown_at B i
-      → answer ≡ reason_in kind j k i
-      → r ≡ reason_for answer
-      → r ≡ reason_for (bytes_reason wrong (seen a) (seen b) i)
-  passed_on i {answer = answer} z e1 e2 e3 e4 e5 e6 e7 =
-      let whole : is_broken ≡ false = (neither_row is_broken is_long t.number z).0 in
-      let same : answer ≡ bytes_reason wrong (seen a) (seen b) i = rw whole (told a b i (of_given (seen a) t.of_a e1) (of_given (seen b) t.of_b e2) e3 e4 e5 e6) in
-      e7 ∙ ap reason_for same
+    → x ≡ seen a
+    → y ≡ seen b
+    → r ≡ reason_by (s || t) x y i
+    → r ≡ bytes_reason (p || q) (seen a) (seen b) i
+entry_told p q a b i {r = r} e f g h told =
+    let by_counts : r ≡ reason_by (p || q) (seen a) (seen b) i = rw (e, f, g, h) at told in
+    let first = same_misfit a.present a.annotation a.bases a.quals a.depths a.errors a.evidence in
+    let second = same_misfit b.present b.annotation b.bases b.quals b.depths b.errors b.evidence in
+    rw (first, second, or_none (misfit (seen a)) (misfit (seen b))) at by_counts

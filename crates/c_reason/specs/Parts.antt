@@ -1,23 +1,22 @@
--- What the parts of `gedrashiw_no_call_reason` promise each other.
-use Rattle.std.specs.Prelude.{ℕ, Bool, cond, ◌&&◌}
-use Rattle.methylation.specs.Methylation.{is_annotated}
-use Rattle.methylation.specs.declared.Annotation.{Annotation}
-use Rattle.molecule_strand.specs.Rows.{numbers_in}
-use Rattle.molecule_strand.specs.declared.ByteCounts.{ByteCounts}
-use Rattle.duplex_kind.specs.declared.GivenStrand.{GivenStrand}
+-- What the parts of `gedrashiw_no_call_reason` promise each other, for strands given as bytes.
+use Rattle.std.specs.Prelude.{Option, Result, Err, ℕ, ◌/◌, Bool, false, cond, ◌||◌, List, length, take}
+use Rattle.refusals.specs.declared.Refusal.{Refusal}
+use Rattle.refusals.specs.declared.Refusal.TheVariants.{Broken}
+use Rattle.duplex_kind.specs.Kind.{Given, record_kind}
+use Rattle.duplex_kind.specs.declared.DuplexConsensus.{DuplexConsensus}
+use Rattle.duplex_reason.specs.declared.NoCallReason.{NoCallReason}
+use Rattle.rust_reason.specs.Reply.{entry_reason}
+use Rattle.molecule_strand.specs.Rows.{misfit_in, numbers_in}
+use Rattle.molecule_strand.specs.Strand.{StrandBytes, strand_of}
 
--- The byte counts of what is looked at: nothing of an absent strand, and evidence only with an annotation.
-abbrev pub counts_seen : Bool → Annotation → ℕ → ℕ → ℕ → ℕ → ℕ → ByteCounts
-counts_seen present annotation bases quals depths errors evidence = record {
-  present = present;
-  annotation = annotation;
-  bases = cond present bases 0;
-  quals = cond present quals 0;
-  depths = cond present depths 0;
-  errors = cond present errors 0;
-  evidence = cond (present && is_annotated annotation) evidence 0;
-}
+-- What is given of a strand by its byte counts, and by depths that were read to the front of an array.
+abbrev pub given_by : StrandBytes → List ℕ → Given
+given_by s depths = record { present = s.present; annotation = s.annotation; lengths = numbers_in s; depths = take (length s.depths / 2) depths }
 
--- What is given of a strand by its byte counts.
-abbrev pub given_in : ByteCounts → GivenStrand
-given_in s = record { present = s.present; annotation = s.annotation; lengths = numbers_in s }
+-- The kind of the record that two strands make, or the refusal: 13 for a byte count before all others.
+abbrev pub kind_by : StrandBytes → StrandBytes → Result (Option DuplexConsensus) Refusal
+kind_by a b = cond (misfit_in a || misfit_in b) (Err Broken) (record_kind (strand_of a) (strand_of b) false 0 false)
+
+-- What is said of position i, where a pattern is wrong or not.
+abbrev pub reason_by : Bool → StrandBytes → StrandBytes → ℕ → Result NoCallReason Refusal
+reason_by wrong a b i = entry_reason (wrong || (misfit_in a || misfit_in b)) (strand_of a) (strand_of b) i

@@ -1,108 +1,82 @@
 // Why a position of a record shows N, document 02's #101, as an entry point for C programs: strands as bytes, and the answer as numbers. An
 // array of wider numbers is passed as its bytes, low byte first. The reasons are duplex_reason's and their numbers rust_reason's; this
-// crate owns what of the bytes a position needs. Row 13, and what of a strand is looked at, are stated by the definitions of
-// molecule_consensus and c_interface, as those of `gedrashiw_duplex_consensus`. Uses lists, methylation, vanilla_caller, byte_numbers,
-// molecule_evidence, molecule_strand, duplex_kind, duplex_reason and rust_reason.
+// crate owns what of the bytes a position needs. Row 13 is stated by the definitions of molecule_consensus, and what of a strand is looked
+// at is c_interface's, as those of `gedrashiw_duplex_consensus`. Uses lists, refusals, methylation, vanilla_caller, byte_numbers,
+// molecule_evidence, molecule_strand, duplex_kind, c_interface, duplex_reason and rust_reason.
 #![tactic(auto)]
 
-ghost use Rattle.std.specs.Prelude.{◌≡◌, false, cond, ◌&&◌, ◌||◌, ◌/◌, ◌≤◌, length, get_or};
-ghost use Rattle.lists.specs.Part.{only_if};
-ghost use Rattle.methylation.specs.Methylation.{is_annotated};
-ghost use Rattle.byte_numbers.specs.Bytes.{words16};
+ghost use Rattle.std.specs.Prelude.{◌≡◌, ◌||◌, get_or};
 ghost use Rattle.molecule_evidence.specs.Evidence.{marks_of};
-ghost use Rattle.molecule_strand.specs.Strand.{wrong_pattern};
-ghost use Rattle.duplex_kind.specs.Kind.{kind_given};
-ghost use Rattle.duplex_reason.specs.Record.{shown_in};
+ghost use Rattle.molecule_strand.specs.Strand.{encoded_in, strand_of, wrong_pattern};
+ghost use Rattle.duplex_kind.specs.Kind.{given_in};
+ghost use Rattle.duplex_reason.specs.Record.{shown_at};
 ghost use Rattle.rust_reason.specs.Reply.{reason_for};
 ghost use Rattle.c_interface.specs.Entry.{told, strand_given};
 ghost use Rattle.c_reason.specs.Reason.{bytes_reason};
-ghost use Rattle.c_reason.specs.Parts.{counts_seen, given_in};
+ghost use Rattle.c_reason.specs.Parts.{given_by, kind_by, reason_by};
 
-use byte_numbers::read_u16s;
+use c_interface::{strand_given, told};
 use duplex_kind::{DuplexConsensus, GivenStrand, record_kind};
 use duplex_reason::{NoCallReason, Shown, reason_in};
-use lists::{at_u8, front_u16};
-use methylation::{Annotation, EvidenceLengths, is_annotated};
+use lists::{front, get_or};
+use methylation::EvidenceLengths;
 use molecule_evidence::POSITION_BYTES;
-use molecule_strand::{ByteCounts, annotation_of, early_refusal, seen_u8, wrong_pattern};
-use rust_reason::{Reason, reason_for};
+use molecule_strand::{EncodedStrand, early_refusal, wrong_pattern};
+use refusals::{Refusal, refuse};
+use rust_reason::Reason;
 use vanilla_caller::Lengths;
 
-// A byte count where it is looked at.
-fn count_seen(looked_at: bool, bytes: usize) -> usize
-    ensures { result ≡ cond looked_at bytes 0 }
+// What is given of a strand, whose depths were read to the front of an array.
+fn given_by<'a>(s: Option<EncodedStrand>, depths: &'a [u16]) -> Option<GivenStrand<'a>>
+    ensures { given_in result ≡ given_by (encoded_in s.entry) depths.now }
 {
-    if looked_at { bytes } else { 0 }
-}
-
-// The byte counts of a strand, as far as it is looked at.
-fn counts_seen(
-    present: bool,
-    annotation: Annotation,
-    bases: usize,
-    quals: usize,
-    depths: usize,
-    errors: usize,
-    evidence: usize,
-) -> ByteCounts
-    ensures { result ≡ counts_seen present annotation bases quals depths errors evidence }
-{
-    ByteCounts {
-        present,
-        annotation,
-        bases: count_seen(present, bases),
-        quals: count_seen(present, quals),
-        depths: count_seen(present, depths),
-        errors: count_seen(present, errors),
-        evidence: count_seen(present & is_annotated(annotation), evidence),
+    match s {
+        Some(s) => {
+            let places = s.evidence.len() / POSITION_BYTES;
+            Some(GivenStrand {
+                annotation: s.annotation,
+                lengths: Lengths {
+                    bases: s.bases.len(),
+                    quals: s.quals.len(),
+                    depths: s.depths.len() / 2,
+                    errors: s.errors.len() / 2,
+                    evidence: EvidenceLengths {
+                        marks: places,
+                        unconverted: places,
+                        converted: places,
+                    },
+                },
+                depths: front(depths, s.depths.len() / 2),
+            })
+        }
+        None => None,
     }
 }
 
-// What is given of a strand by its byte counts.
-fn given_in(s: ByteCounts) -> GivenStrand
-    ensures { result ≡ given_in s }
+// A strand's bytes of depths, none of an absent one.
+fn depths_of<'a>(s: Option<EncodedStrand<'a>>) -> &'a [u8]
+    ensures { result.now ≡ (encoded_in s.entry).depths }
 {
-    let annotation = s.annotation;
-    let places = s.evidence / POSITION_BYTES;
-    GivenStrand {
-        present: s.present,
-        annotation,
-        lengths: Lengths {
-            bases: s.bases,
-            quals: s.quals,
-            depths: s.depths / 2,
-            errors: s.errors / 2,
-            evidence: EvidenceLengths {
-                marks: places,
-                unconverted: places,
-                converted: places,
-            },
-        },
+    match s {
+        Some(s) => s.depths,
+        None => &[],
     }
 }
 
-// The kind of the record, from the bytes of depths, which are looked at of a strand that is there.
-fn kind_of(a: GivenStrand, a_depths: &[u8], b: GivenStrand, b_depths: &[u8]) -> DuplexConsensus
-    requires { (length (only_if a.present a_depths.now) / 2 ≤ 1024) × (length (only_if b.present b_depths.now) / 2 ≤ 1024) }
-    ensures { result ≡ kind_given a (words16 (only_if a.present a_depths.now)) b (words16 (only_if b.present b_depths.now)) false 0 false }
+// The kind of the record that two strands make, for which of their numbers the depths alone are read. Refuses by 13, 7, 8.
+fn kind_by(
+    a: Option<EncodedStrand>,
+    b: Option<EncodedStrand>,
+) -> Result<Option<DuplexConsensus>, Refusal>
+    ensures { result ≡ kind_by (encoded_in a.entry) (encoded_in b.entry) }
 {
-    let a_depths = seen_u8(a.present, a_depths);
-    let b_depths = seen_u8(b.present, b_depths);
-    let mut a_read = [0; 1024];
-    let mut b_read = [0; 1024];
-    read_u16s(a_depths, &mut a_read);
-    read_u16s(b_depths, &mut b_read);
-    let n = a_depths.len() / 2;
-    let m = b_depths.len() / 2;
-    record_kind(
-        a,
-        front_u16(&a_read, n),
-        b,
-        front_u16(&b_read, m),
-        false,
-        0,
-        false,
-    )
+    early_refusal(a, b)?;
+    // No heap: arrays of the most that is looked at.
+    let mut a_depths = [0; 1024];
+    let mut b_depths = [0; 1024];
+    byte_numbers::read(depths_of(a), &mut a_depths);
+    byte_numbers::read(depths_of(b), &mut b_depths);
+    record_kind(given_by(a, &a_depths), given_by(b, &b_depths), None)
 }
 
 // The mark of a position in bytes of evidence, 0 past their end.
@@ -115,26 +89,41 @@ fn mark_at(evidence: &[u8], position: usize) -> u8
     0
 }
 
-// What a strand shows at a position, as far as it is looked at.
-fn shown_seen(
-    present: bool,
-    annotation: Annotation,
-    bases: &[u8],
-    quals: &[u8],
-    evidence: &[u8],
-    position: usize,
-) -> Shown
-    ensures { result ≡ shown_in annotation (only_if present bases.now) (only_if present quals.now) (marks_of (only_if (present && is_annotated annotation) evidence.now)) position }
+// What a strand that may be absent shows at a position; zeros past its end.
+#[tactic(auto, unfolding(molecule_strand::specs::Strand::strand_of, byte_numbers::specs::Groups::by_group, lists::specs::Table::tabulate))]
+fn shown_at(s: Option<EncodedStrand>, position: usize) -> Shown
+    ensures { result ≡ shown_at (strand_of (encoded_in s.entry)) position }
 {
-    let bases = seen_u8(present, bases);
-    let quals = seen_u8(present, quals);
-    let evidence = seen_u8(present & is_annotated(annotation), evidence);
-    Shown {
-        annotation,
-        base: at_u8(bases, position, 0),
-        qual: at_u8(quals, position, 0),
-        mark: mark_at(evidence, position),
+    match s {
+        Some(s) => Shown {
+            annotation: s.annotation,
+            base: get_or(s.bases, position, 0),
+            qual: get_or(s.quals, position, 0),
+            mark: mark_at(s.evidence, position),
+        },
+        None => Shown {
+            annotation: None,
+            base: 0,
+            qual: 0,
+            mark: 0,
+        },
     }
+}
+
+// What is said of a position, after row 13 for a pattern.
+fn reason_by(
+    wrong: bool,
+    a: Option<EncodedStrand>,
+    b: Option<EncodedStrand>,
+    position: usize,
+) -> Result<NoCallReason, Refusal>
+    ensures { result ≡ reason_by wrong (encoded_in a.entry) (encoded_in b.entry) position }
+{
+    refuse(wrong, Refusal::Broken)?;
+    let made = kind_by(a, b)?;
+    let at_a = shown_at(a, position);
+    let at_b = shown_at(b, position);
+    Ok(reason_in(made, at_a, at_b, position))
 }
 
 // Why a position of the record that two strands make shows N: `no_call_reason` over bytes. Depths and errors are two bytes a position,
@@ -167,51 +156,25 @@ pub extern "C" fn gedrashiw_no_call_reason(
         (strand_given b_present b_annotated b_pattern b_bases.now b_quals.now b_depths.now b_errors.now b_evidence.now)
         position) }
 {
-    let a_there = a_present != 0;
-    let b_there = b_present != 0;
-    let a_told = a_there & (a_annotated != 0);
-    let b_told = b_there & (b_annotated != 0);
-    let wrong = wrong_pattern(a_told, a_pattern) | wrong_pattern(b_told, b_pattern);
-    let a_annotation = annotation_of(a_told, a_pattern);
-    let b_annotation = annotation_of(b_told, b_pattern);
-    let a = counts_seen(
-        a_there,
-        a_annotation,
-        a_bases.len(),
-        a_quals.len(),
-        a_depths.len(),
-        a_errors.len(),
-        a_evidence.len(),
-    );
-    let b = counts_seen(
-        b_there,
-        b_annotation,
-        b_bases.len(),
-        b_quals.len(),
-        b_depths.len(),
-        b_errors.len(),
-        b_evidence.len(),
-    );
-    let number = early_refusal(a, b, wrong);
-    if number != 0 {
-        return reason_for(NoCallReason::Refused(number));
-    }
-    let kind = kind_of(given_in(a), a_depths, given_in(b), b_depths);
-    let at_a = shown_seen(
-        a_there,
-        a_annotation,
-        a_bases,
-        a_quals,
-        a_evidence,
-        position,
-    );
-    let at_b = shown_seen(
-        b_there,
-        b_annotation,
-        b_bases,
-        b_quals,
-        b_evidence,
-        position,
-    );
-    reason_for(reason_in(kind, at_a, at_b, position))
+    let wrong = wrong_pattern(told(a_present, a_annotated), a_pattern)
+        | wrong_pattern(told(b_present, b_annotated), b_pattern);
+    let a = EncodedStrand {
+        annotation: None,
+        bases: a_bases,
+        quals: a_quals,
+        depths: a_depths,
+        errors: a_errors,
+        evidence: a_evidence,
+    };
+    let b = EncodedStrand {
+        annotation: None,
+        bases: b_bases,
+        quals: b_quals,
+        depths: b_depths,
+        errors: b_errors,
+        evidence: b_evidence,
+    };
+    let a = strand_given(a_present, a_annotated, a_pattern, a);
+    let b = strand_given(b_present, b_annotated, b_pattern, b);
+    Reason::from(reason_by(wrong, a, b, position))
 }

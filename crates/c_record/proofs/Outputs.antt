@@ -1,18 +1,19 @@
 -- Laws of a record as bytes.
 --     same_evidence                 a strand's evidence, by the fronts that the code has
---     bytes_refused_lem             what a refused call leaves
 --     turned_down, passed_on        what is promised of a call, by its test and what was written
 -- Assumes nothing.
-use mathlib.Core.Path.{◌≡◌, refl, sym, ap, subst, ◌∙◌}
+use mathlib.Core.Path.{◌≡◌, refl, sym, ap, ◌∙◌}
 use mathlib.Core.Bool.{Bool, true, false}
-use mathlib.Core.List.{List, [], ◌∷◌}
+use mathlib.Core.List.{List}
 use Prim.Native.Nat.{ℕ, ◌/◌, ◌≤◌}
 use native.Mathlib.Omega.{arith}
 use lib.ListN.{length, take, length-take}
 use lib.Seq.{take_all}
 use Rattle.lists.specs.Output.{put}
-use Rattle.lists.proofs.Output.{answer_refused, answer_passed, after_refused, after_passed}
-use Rattle.refusals.specs.Refusal.{◌if◌, refusal, OutputTooShort}
+use Rattle.refusals.specs.declared.Refusal.TheVariants.{OutputTooShort}
+use Rattle.refusals.specs.declared.Refusal.{Refusal}
+use Rattle.refusals.specs.Outcome.{refused_if}
+use Rattle.std.proofs.Common.{Result, Ok, Err}
 use Rattle.methylation.specs.Arrays.{evidence_places}
 use Rattle.byte_numbers.specs.Bytes.{number_of, bytes16}
 use Rattle.byte_numbers.proofs.Groups.{length_by_group}
@@ -20,9 +21,7 @@ use Rattle.molecule_evidence.specs.Evidence.{mark_in, count_in, evidence_bytes}
 use Rattle.duplex_outputs.specs.Outputs.{RecordArrays, record_lengths, record_too_short}
 use Rattle.duplex_outputs.specs.declared.RecordLengths.{RecordLengths}
 use Rattle.duplex_outputs.proofs.Outputs.{roomy}
-use Rattle.duplex_kind.specs.declared.DuplexConsensus.{DuplexConsensus}
-use Rattle.duplex_kind.specs.declared.DuplexConsensus.TheVariants.{Refused}
-use Rattle.c_record.specs.Outputs.{RecordBytes, as_arrays, LeavesBytes, short_for, outputs_refused, fronts, WrittenAs, positions_in}
+use Rattle.c_record.specs.Outputs.{RecordBytes, as_arrays, short_for, fronts, WrittenAs, positions_in}
 use Rattle.c_record.specs.declared.Written.{Written}
 
 -- Evidence of m, u and v, by the fronts m', u' and v' that the code has of them.
@@ -45,15 +44,6 @@ unfolding as_arrays positions_in
 same_held out =
     rw
     (length_by_group 2 number_of out.errors, length_by_group 9 mark_in out.evidence_a, length_by_group 9 (count_in 1) out.evidence_a, length_by_group 9 (count_in 5) out.evidence_a, length_by_group 9 mark_in out.evidence_b, length_by_group 9 (count_in 1) out.evidence_b, length_by_group 9 (count_in 5) out.evidence_b)
-
-pub bytes_refused_lem : {written before : RecordBytes} {n number : ℕ} → n ≡ number → (n ≡ 0 → ⊥) → LeavesBytes number written before before
-bytes_refused_lem e h = record {
-  bases = after_refused _ _ e h;
-  quals = after_refused _ _ e h;
-  errors = after_refused _ _ e h;
-  evidence_a = after_refused _ _ e h;
-  evidence_b = after_refused _ _ e h;
-}
 
 -- Outputs that row 12 does not refuse have room for what goes there.
 record Room (w : Written) (out : RecordLengths) : Type 0 where
@@ -92,48 +82,50 @@ pub record Wrote (w : Written) (arrays : RecordArrays) (before now : RecordBytes
 all_of : (n : ℕ) (xs : List ℕ) {k : ℕ} → n ≤ k → take k (take n xs) ≡ take n xs
 all_of n xs {k} h = take_all k (take n xs) (omega (arith, length-take n xs))
 
-is_12 : {short : Bool} → short ≡ true → 12 ≡ refusal ((OutputTooShort if short) ∷ [])
-unfolding refusal
-is_12 e = rw e
+-- What the code tests is row 12's condition.
+short_is : (w : Written) (before : RecordBytes) → record_too_short w.positions w.first w.second (held before) ≡ short_for w (as_arrays before)
+short_is w before = ap (λ (l : RecordLengths). record_too_short w.positions w.first w.second l) (sym (same_held before))
 
-is_0 : {short : Bool} → short ≡ false → 0 ≡ refusal ((OutputTooShort if short) ∷ [])
-unfolding refusal
-is_0 e = rw e
+module _ (w : Written) (arrays : RecordArrays) (before : RecordBytes) where
+  abbrev code_short : Bool
+  code_short = record_too_short w.positions w.first w.second (held before)
 
--- room and short are what the code has.
-is_short : (w : Written) (out : RecordBytes) {room : RecordLengths} {short : Bool} → room ≡ held out → short ≡ record_too_short w.positions w.first w.second room → short ≡ short_for w (as_arrays out)
-unfolding short_for
-is_short w out f g = g ∙ ap (λ (l : RecordLengths). record_too_short w.positions w.first w.second l) (f ∙ sym (same_held out))
+  pub turned_down : {refusal : Refusal} → refused_if code_short OutputTooShort ≡ Err refusal → WrittenAs w arrays before before (Err refusal)
+  turned_down {refusal} e = go code_short e (sym (short_is w before))
+    where
+      go : (b : Bool) → refused_if b OutputTooShort ≡ Err refusal → short_for w (as_arrays before) ≡ b → WrittenAs w arrays before before (Err refusal)
+      go true e s =
+          let is : refusal ≡ OutputTooShort = cc in
+          record {
+            answered = rw (s, is);
+            outputs = record { bases = rw s; quals = rw s; errors = rw s; evidence_a = rw s; evidence_b = rw s };
+          }
+      go false e s = absurd (no e)
+        where
+          no : ◌≡◌ {A = Result (Unit {0}) Refusal} (Ok tt) (Err refusal) → ⊥
+          no q = cc
 
--- w is what the code has of v.
-module _ (arrays : RecordArrays) (before : RecordBytes) {made : DuplexConsensus} {v w : Written} {room : RecordLengths} {short : Bool} where
-  pub turned_down : w ≡ v → room ≡ held before → short ≡ record_too_short w.positions w.first w.second room → short ≡ true → WrittenAs v made arrays before before (Refused 12)
-  turned_down e f g t =
-      let number : 12 ≡ outputs_refused w before = is_12 (sym (is_short w before f g) ∙ t) in
-      subst (λ (x : Written). WrittenAs x made arrays before before (Refused 12)) e
-      record { answered = answer_refused Refused made number (λ z. omega arith); outputs = bytes_refused_lem number (λ z. omega arith) }
-
-  pub passed_on : {now : RecordBytes} → w ≡ v → room ≡ held before → short ≡ record_too_short w.positions w.first w.second room → short ≡ false → Wrote w arrays before now → WrittenAs v made arrays before now made
-  unfolding positions_in
-  passed_on {now} e f g t x =
-      let number : 0 ≡ outputs_refused w before = is_0 (sym (is_short w before f g) ∙ t) in
-      let fit = room_for w (held before) (rw f at (sym g ∙ t)) in
+  pub passed_on : {x : Unit {0}} {now : RecordBytes} → refused_if code_short OutputTooShort ≡ Ok x → Wrote w arrays before now → WrittenAs w arrays before now (Ok tt)
+  passed_on {x} {now} e o =
+      let long = unmet code_short e in
+      let s : short_for w (as_arrays before) ≡ false = sym (short_is w before) ∙ long in
+      let fit = room_for w (held before) long in
       let a = evidence_places w.first w.positions in
       let b = evidence_places w.second w.positions in
-      subst (λ (y : Written). WrittenAs y made arrays before now made) e
       record {
-        answered = answer_passed Refused made number refl;
+        answered = rw s;
         outputs = record {
-          bases = x.bases ∙ ap (λ (l : List ℕ). put l before.bases) (all_of w.positions arrays.bases fit.bases) ∙ after_passed _ _ number refl;
-          quals = x.quals ∙ ap (λ (l : List ℕ). put l before.quals) (all_of w.positions arrays.quals fit.quals) ∙ after_passed _ _ number refl;
-          errors = x.errors ∙ ap (λ (l : List ℕ). put (bytes16 l) before.errors) (all_of w.positions arrays.errors fit.errors) ∙ after_passed _ _ number refl;
-          evidence_a =
-              x.evidence_a
-              ∙ ap (λ (l : List ℕ). put (evidence_bytes l (take a arrays.a.unconverted) (take a arrays.a.converted)) before.evidence_a) (all_of a arrays.a.marks fit.evidence_a)
-              ∙ after_passed _ _ number refl;
-          evidence_b =
-              x.evidence_b
-              ∙ ap (λ (l : List ℕ). put (evidence_bytes l (take b arrays.b.unconverted) (take b arrays.b.converted)) before.evidence_b) (all_of b arrays.b.marks fit.evidence_b)
-              ∙ after_passed _ _ number refl;
+          bases = rw s (o.bases ∙ ap (λ (l : List ℕ). put l before.bases) (all_of w.positions arrays.bases fit.bases));
+          quals = rw s (o.quals ∙ ap (λ (l : List ℕ). put l before.quals) (all_of w.positions arrays.quals fit.quals));
+          errors = rw s (o.errors ∙ ap (λ (l : List ℕ). put (bytes16 l) before.errors) (all_of w.positions arrays.errors fit.errors));
+          evidence_a = rw s (o.evidence_a ∙ ap (λ (l : List ℕ). put (evidence_bytes l (take a arrays.a.unconverted) (take a arrays.a.converted)) before.evidence_a) (all_of a arrays.a.marks fit.evidence_a));
+          evidence_b = rw s (o.evidence_b ∙ ap (λ (l : List ℕ). put (evidence_bytes l (take b arrays.b.unconverted) (take b arrays.b.converted)) before.evidence_b) (all_of b arrays.b.marks fit.evidence_b));
         };
       }
+    where
+      unmet : (b : Bool) → refused_if b OutputTooShort ≡ Ok x → b ≡ false
+      unmet true e = absurd (no e)
+        where
+          no : ◌≡◌ {A = Result (Unit {0}) Refusal} (Err OutputTooShort) (Ok x) → ⊥
+          no q = cc
+      unmet false e = refl

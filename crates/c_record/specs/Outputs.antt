@@ -1,14 +1,17 @@
 -- A duplex record as bytes: a base and a quality are one byte, errors two bytes a position, low byte first, evidence nine.
-use Rattle.std.specs.Prelude.{ℕ, ◌/◌, ◌≡◌, Bool, false, List, [], ◌∷◌, take}
-use Rattle.lists.specs.Output.{answer, after}
-use Rattle.refusals.specs.Refusal.{◌if◌, refusal, OutputTooShort}
-use Rattle.methylation.specs.Arrays.{EvidenceArrays, evidence_arrays, evidence_places}
+use Rattle.std.specs.Prelude.{ℕ, ◌/◌, ◌≡◌, Bool, false, Option, Some, None, Result, List, [], ◌∷◌, take}
+use Rattle.refusals.specs.declared.Refusal.{Refusal}
+use Rattle.refusals.specs.declared.Refusal.TheVariants.{OutputTooShort}
+use Rattle.refusals.specs.Refusal.{◌if◌, refused}
+use Rattle.refusals.specs.Outcome.{answer, after}
+use Rattle.methylation.specs.Arrays.{EvidenceArrays, evidence_arrays, evidence_in, evidence_places}
 use Rattle.byte_numbers.specs.Bytes.{words16, bytes16}
 use Rattle.molecule_evidence.specs.Evidence.{marks_of, unconverted_of, converted_of, evidence_bytes}
 use Rattle.duplex_outputs.specs.Outputs.{RecordArrays, record_of, record_lengths, record_too_short}
 use Rattle.duplex_outputs.specs.declared.RecordLengths.{RecordLengths}
 use Rattle.duplex_kind.specs.declared.DuplexConsensus.{DuplexConsensus}
-use Rattle.duplex_kind.specs.declared.DuplexConsensus.TheVariants.{Refused, NoRecord, Ab, Ba, Both}
+use Rattle.duplex_kind.specs.declared.DuplexConsensus.TheVariants.{Ab, Ba, Both}
+use Rattle.c_record.specs.declared.RecordSlices.{RecordSlices}
 use Rattle.c_record.specs.declared.Written.{Written}
 
 -- The outputs of a record, and what is written to them.
@@ -22,6 +25,10 @@ pub record RecordBytes : Type 0 where
 abbrev pub record_bytes : List ℕ → List ℕ → List ℕ → List ℕ → List ℕ → RecordBytes
 record_bytes bases quals errors evidence_a evidence_b = record { bases = bases; quals = quals; errors = errors; evidence_a = evidence_a; evidence_b = evidence_b }
 
+-- The arrays of a record, as the code has them.
+abbrev pub record_in : RecordSlices → RecordArrays
+record_in r = record { bases = r.bases.now; quals = r.quals.now; errors = r.errors.now; a = evidence_in r.a; b = evidence_in r.b }
+
 -- The bytes of a record's arrays.
 abbrev pub as_bytes : RecordArrays → RecordBytes
 as_bytes r =
@@ -34,32 +41,31 @@ as_arrays r =
     record_of r.bases r.quals (words16 r.errors) (marks_of r.evidence_a) (unconverted_of r.evidence_a) (converted_of r.evidence_a)
     (marks_of r.evidence_b) (unconverted_of r.evidence_b) (converted_of r.evidence_b)
 
--- What a call leaves there, where it was refused with a number (0: not refused) or else writes these bytes.
-pub record LeavesBytes (number : ℕ) (written before now : RecordBytes) : Type 0 where
-  pub bases : now.bases ≡ after number written.bases before.bases
-  pub quals : now.quals ≡ after number written.quals before.quals
-  pub errors : now.errors ≡ after number written.errors before.errors
-  pub evidence_a : now.evidence_a ≡ after number written.evidence_a before.evidence_a
-  pub evidence_b : now.evidence_b ≡ after number written.evidence_b before.evidence_b
+-- What a call leaves there, where it was refused or else writes these bytes.
+pub record LeavesBytes (refused : Option Refusal) (written before now : RecordBytes) : Type 0 where
+  pub bases : now.bases ≡ after refused written.bases before.bases
+  pub quals : now.quals ≡ after refused written.quals before.quals
+  pub errors : now.errors ≡ after refused written.errors before.errors
+  pub evidence_a : now.evidence_a ≡ after refused written.evidence_a before.evidence_a
+  pub evidence_b : now.evidence_b ≡ after refused written.evidence_b before.evidence_b
 
 abbrev pub written : ℕ → Bool → Bool → Written
 written n first second = record { positions = n; first = first; second = second }
 
 -- How many positions are written of an answer, and whether evidence of the first strand and of the second, by the annotations of A
 -- and of B. A strand alone is the first.
-abbrev pub written_of : Bool → Bool → DuplexConsensus → Written
-written_of a b (Refused number) = written 0 false false
-written_of a b NoRecord = written 0 false false
-written_of a b (Ab n) = written n a false
-written_of a b (Ba n) = written n b false
-written_of a b (Both n) = written n a b
+abbrev pub written_of : Bool → Bool → Option DuplexConsensus → Written
+written_of a b None = written 0 false false
+written_of a b (Some (Ab n)) = written n a false
+written_of a b (Some (Ba n)) = written n b false
+written_of a b (Some (Both n)) = written n a b
 
--- Row 12's condition for it.
-unfoldable pub short_for : Written → RecordArrays → Bool
+-- Refusal 12's condition for it.
+abbrev pub short_for : Written → RecordArrays → Bool
 short_for w out = record_too_short w.positions w.first w.second (record_lengths out)
 
-abbrev pub outputs_refused : Written → RecordBytes → ℕ
-outputs_refused w out = refusal ((OutputTooShort if short_for w (as_arrays out)) ∷ [])
+abbrev pub outputs_refused : Written → RecordBytes → Option Refusal
+outputs_refused w out = refused ((OutputTooShort if short_for w (as_arrays out)) ∷ [])
 
 -- The first so many positions of evidence.
 abbrev pub evidence_fronts : ℕ → EvidenceArrays → EvidenceArrays
@@ -77,13 +83,13 @@ fronts w r =
       b = evidence_fronts (evidence_places w.second n) r.b;
     }
 
--- What a call answers and leaves, given the answer of the call that made these arrays and what it writes of them.
-pub record WrittenAs (w : Written) (made : DuplexConsensus) (arrays : RecordArrays) (before now : RecordBytes) (r : DuplexConsensus) : Type 0 where
-  pub answered : r ≡ answer Refused (outputs_refused w before) made
+-- What a call answers and leaves, given what it writes of these arrays.
+pub record WrittenAs (w : Written) (arrays : RecordArrays) (before now : RecordBytes) (r : Result (Unit {0}) Refusal) : Type 0 where
+  pub answered : r ≡ answer (outputs_refused w before) tt
   pub outputs : LeavesBytes (outputs_refused w before) (as_bytes (fronts w arrays)) before now
 
 -- For the functions below the call: how many positions outputs of so many bytes hold.
-unfoldable pub positions_in : ℕ → ℕ → ℕ → ℕ → ℕ → RecordLengths
+abbrev pub positions_in : ℕ → ℕ → ℕ → ℕ → ℕ → RecordLengths
 positions_in bases quals errors a b = record {
   bases = bases;
   quals = quals;

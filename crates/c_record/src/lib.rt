@@ -5,18 +5,25 @@
 ghost use Rattle.std.specs.Prelude.{◌≡◌, ◌/◌, length, take};
 ghost use Rattle.lists.specs.Output.{put};
 ghost use Rattle.methylation.specs.Arrays.{evidence_places};
-ghost use Rattle.byte_numbers.specs.Bytes.{bytes16};
 ghost use Rattle.molecule_evidence.specs.Evidence.{evidence_bytes};
-ghost use Rattle.duplex_outputs.specs.Outputs.{record_of};
-ghost use Rattle.c_record.specs.Outputs.{record_bytes, written_of, positions_in, WrittenAs};
+ghost use Rattle.c_record.specs.Outputs.{record_in, record_bytes, written_of, positions_in, WrittenAs};
 
-use byte_numbers::write_u16s;
 use duplex_kind::DuplexConsensus;
 use duplex_outputs::{RecordLengths, record_too_short};
-use lists::{copy_u8, front_u8, front_u16, front_u32};
-use methylation::{EvidenceLengths, evidence_places};
+use lists::{copy, front};
+use methylation::{EvidenceLengths, EvidenceSlices, evidence_places};
 use molecule_evidence::{POSITION_BYTES, write_evidence};
-use refusals::OUTPUT_TOO_SHORT;
+use refusals::{Refusal, refuse};
+
+// The arrays of a record: its own, and the evidence of its first strand and of its second.
+#[derive(Clone, Copy)]
+pub struct RecordSlices<'a> {
+    pub bases: &'a [u8],
+    pub quals: &'a [u8],
+    pub errors: &'a [u16],
+    pub a: EvidenceSlices<'a>,
+    pub b: EvidenceSlices<'a>,
+}
 
 // How many positions are written, and whether evidence of the first strand and of the second.
 #[derive(Clone, Copy)]
@@ -26,35 +33,19 @@ pub struct Written {
     pub second: bool,
 }
 
-fn written_of(a_annotated: bool, b_annotated: bool, made: DuplexConsensus) -> Written
+fn written_of(a_annotated: bool, b_annotated: bool, made: Option<DuplexConsensus>) -> Written
     ensures { result ≡ written_of a_annotated b_annotated made }
 {
-    match made {
-        DuplexConsensus::Refused(_) => Written {
-            positions: 0,
-            first: false,
-            second: false,
-        },
-        DuplexConsensus::NoRecord => Written {
-            positions: 0,
-            first: false,
-            second: false,
-        },
-        DuplexConsensus::Ab(n) => Written {
-            positions: n,
-            first: a_annotated,
-            second: false,
-        },
-        DuplexConsensus::Ba(n) => Written {
-            positions: n,
-            first: b_annotated,
-            second: false,
-        },
-        DuplexConsensus::Both(n) => Written {
-            positions: n,
-            first: a_annotated,
-            second: b_annotated,
-        },
+    let (positions, first, second) = match made {
+        None => (0, false, false),
+        Some(DuplexConsensus::Ab(n)) => (n, a_annotated, false),
+        Some(DuplexConsensus::Ba(n)) => (n, b_annotated, false),
+        Some(DuplexConsensus::Both(n)) => (n, a_annotated, b_annotated),
+    };
+    Written {
+        positions,
+        first,
+        second,
     }
 }
 
@@ -87,68 +78,36 @@ fn positions_in(
     }
 }
 
-// The first n positions of a record's own arrays, as many as there is room for.
-fn write_own(
-    n: usize,
-    bases: &[u8],
-    quals: &[u8],
-    errors: &[u16],
-    bases_out: &mut [u8],
-    quals_out: &mut [u8],
-    errors_out: &mut [u8],
-)
-    ensures bases_out_after { bases_out.new ≡ put (take (length bases_out.old) (take n bases.now)) bases_out.old }
-    ensures quals_out_after { quals_out.new ≡ put (take (length quals_out.old) (take n quals.now)) quals_out.old }
-    ensures errors_out_after { errors_out.new ≡ put (bytes16 (take (length errors_out.old / 2) (take n errors.now))) errors_out.old }
-{
-    copy_u8(front_u8(bases, n), bases_out);
-    copy_u8(front_u8(quals, n), quals_out);
-    write_u16s(front_u16(errors, n), errors_out);
-}
-
 // The first n positions of a strand's evidence, where there is any to write, as many as there is room for.
-fn write_strand(
-    there: bool,
-    n: usize,
-    marks: &[u8],
-    unconverted: &[u32],
-    converted: &[u32],
-    out: &mut [u8],
-)
-    ensures { out.new ≡ put (evidence_bytes (take (length out.old / 9) (take (evidence_places there n) marks.now)) (take (evidence_places there n) unconverted.now) (take (evidence_places there n) converted.now)) out.old }
+// An annotated strand whose evidence is not written is one that is alone or not there: the flag is not the annotation's.
+fn write_strand(there: bool, n: usize, evidence: EvidenceSlices, out: &mut [u8])
+    ensures { out.new ≡ put (evidence_bytes (take (length out.old / 9) (take (evidence_places there n) evidence.entry.marks.now)) (take (evidence_places there n) evidence.entry.unconverted.now) (take (evidence_places there n) evidence.entry.converted.now)) out.old }
 {
     let places = evidence_places(there, n);
-    write_evidence(
-        front_u8(marks, places),
-        front_u32(unconverted, places),
-        front_u32(converted, places),
-        out,
-    );
+    let written = EvidenceSlices {
+        marks: front(evidence.marks, places),
+        unconverted: front(evidence.unconverted, places),
+        converted: front(evidence.converted, places),
+    };
+    write_evidence(written, out);
 }
 
-// Writes the record that a call answered, from the arrays that it left, and hands its answer on. Evidence is written of the
-// annotated strands that are in the record. Refuses by 12, and then writes nothing.
+// Writes the record that a call answered, from the arrays that it left. Evidence is written of the annotated strands that are in the
+// record. Refuses by 12, and then writes nothing.
+// Lent outputs stay apart: the borrow checker has no rule for a struct of them that is passed on.
 pub fn write_record(
-    made: DuplexConsensus,
+    made: Option<DuplexConsensus>,
     a_annotated: bool,
     b_annotated: bool,
-    bases: &[u8],
-    quals: &[u8],
-    errors: &[u16],
-    a_marks: &[u8],
-    a_unconverted: &[u32],
-    a_converted: &[u32],
-    b_marks: &[u8],
-    b_unconverted: &[u32],
-    b_converted: &[u32],
+    arrays: RecordSlices,
     bases_out: &mut [u8],
     quals_out: &mut [u8],
     errors_out: &mut [u8],
     a_evidence_out: &mut [u8],
     b_evidence_out: &mut [u8],
-) -> DuplexConsensus
-    ensures { WrittenAs (written_of a_annotated b_annotated made) made
-        (record_of bases.now quals.now errors.now a_marks.now a_unconverted.now a_converted.now b_marks.now b_unconverted.now b_converted.now)
+) -> Result<(), Refusal>
+    ensures { WrittenAs (written_of a_annotated b_annotated made)
+        (record_in arrays.entry)
         (record_bytes bases_out.old quals_out.old errors_out.old a_evidence_out.old b_evidence_out.old)
         (record_bytes bases_out.new quals_out.new errors_out.new a_evidence_out.new b_evidence_out.new)
         result }
@@ -161,33 +120,12 @@ pub fn write_record(
         a_evidence_out.len(),
         b_evidence_out.len(),
     );
-    if record_too_short(w.positions, w.first, w.second, room) {
-        return DuplexConsensus::Refused(OUTPUT_TOO_SHORT);
-    }
-    write_own(
-        w.positions,
-        bases,
-        quals,
-        errors,
-        bases_out,
-        quals_out,
-        errors_out,
-    );
-    write_strand(
-        w.first,
-        w.positions,
-        a_marks,
-        a_unconverted,
-        a_converted,
-        a_evidence_out,
-    );
-    write_strand(
-        w.second,
-        w.positions,
-        b_marks,
-        b_unconverted,
-        b_converted,
-        b_evidence_out,
-    );
-    made
+    let short = record_too_short(w.positions, w.first, w.second, room);
+    refuse(short, Refusal::OutputTooShort)?;
+    copy(front(arrays.bases, w.positions), bases_out);
+    copy(front(arrays.quals, w.positions), quals_out);
+    byte_numbers::write(front(arrays.errors, w.positions), errors_out);
+    write_strand(w.first, w.positions, arrays.a, a_evidence_out);
+    write_strand(w.second, w.positions, arrays.b, b_evidence_out);
+    Ok(())
 }

@@ -1,13 +1,12 @@
 // The combination of two strands, and a strand alone. The calls are those of rust_consensus.
-ghost use Rattle.std.specs.Prelude.{[], ◌||◌};
-ghost use Rattle.replies.specs.Choices.{yes, annotation_of, wrong_annotation};
-ghost use Rattle.replies.specs.Replies.{PassedOn, not_counted, RepliedAs};
-ghost use Rattle.methylation.specs.declared.Annotation.TheVariants.{Absent};
+ghost use Rattle.std.specs.Prelude.{None, [], ◌||◌};
+ghost use Rattle.methylation.specs.Choices.{annotation_of, wrong_annotation};
+ghost use Rattle.replies.specs.Choices.{yes};
+ghost use Rattle.replies.specs.Replies.{count_reply, PassedOn, not_counted, RepliedAs};
 ghost use Rattle.vanilla_caller.specs.Strand.{arrays};
 ghost use Rattle.duplex_molecule.specs.declared.CtInput.TheVariants.{Neither};
 ghost use Rattle.duplex_outputs.specs.Outputs.{record_of};
 ghost use Rattle.duplex_strands.specs.Combine.{CombinedAs};
-ghost use Rattle.rust_consensus.specs.Answers.{combined_count, single_count};
 ghost use Rattle.duplex_molecule.specs.Molecule.{ct_input};
 ghost use Rattle.duplex_single.specs.Single.{SingleAs};
 
@@ -29,10 +28,10 @@ pub extern "C" fn gedrashiw_combine_strands(
     quals_out: &mut [u8],
     errors_out: &mut [u16],
 ) -> Count
-    ensures { PassedOn combined_count
-        (CombinedAs Neither Absent
+    ensures { PassedOn count_reply
+        (CombinedAs Neither None
         (arrays a_bases.now a_quals.now a_depths.now a_errors.now [] [] [])
-        Absent
+        None
         (arrays b_bases.now b_quals.now b_depths.now b_errors.now [] [] [])
         (yes listed))
         (record_of bases_out.old quals_out.old errors_out.old [] [] [] [] [] [])
@@ -75,7 +74,7 @@ pub extern "C" fn gedrashiw_combine_strands_annotated(
     b_unconverted_out: &mut [u32],
     b_converted_out: &mut [u32],
 ) -> Count
-    ensures { RepliedAs (wrong_annotation a_annotation || wrong_annotation b_annotation) (not_counted 13) combined_count
+    ensures { RepliedAs (wrong_annotation a_annotation || wrong_annotation b_annotation) (not_counted 13) count_reply
         (CombinedAs (ct_input (annotation_of a_annotation) (annotation_of b_annotation)) (annotation_of a_annotation)
         (arrays a_bases.now a_quals.now a_depths.now a_errors.now a_marks.now a_unconverted.now a_converted.now)
         (annotation_of b_annotation)
@@ -133,7 +132,7 @@ pub extern "C" fn gedrashiw_gated_single_strand(
     unconverted_out: &mut [u32],
     converted_out: &mut [u32],
 ) -> Count
-    ensures { RepliedAs (wrong_annotation annotation) (not_counted 13) single_count
+    ensures { RepliedAs (wrong_annotation annotation) (not_counted 13) count_reply
         (SingleAs (annotation_of annotation)
         (arrays bases.now quals.now depths.now errors.now marks.now unconverted.now converted.now))
         (record_of bases_out.old quals_out.old errors_out.old marks_out.old unconverted_out.old converted_out.old [] [] [])

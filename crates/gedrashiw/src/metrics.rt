@@ -1,11 +1,11 @@
 // A record's depths, and the metrics. The calls are those of rust_metrics.
 ghost use Rattle.std.specs.Prelude.{◌≡◌};
-ghost use Rattle.lists.specs.Output.{answer, after};
+ghost use Rattle.refusals.specs.Outcome.{answer, after};
 ghost use Rattle.duplex_depths.specs.Depths.{combined_depths, combined_refused, depth_range};
-ghost use Rattle.duplex_depths.specs.declared.CombinedDepths.TheVariants.{Refused, Written};
-ghost use Rattle.rust_metrics.specs.Answers.{depths_count, range_reply, figures_reply, metrics_reply};
+ghost use Rattle.rust_metrics.specs.Answers.{range_reply, figures_reply, metrics_reply};
 ghost use Rattle.duplex_metrics.specs.Metrics.{strand_metrics, input, metrics_of};
 ghost use Rattle.replies.specs.Choices.{yes};
+ghost use Rattle.replies.specs.Replies.{count_reply};
 ghost use Rattle.metrics_bits.specs.Bits.{metrics_words};
 
 use replies::Count;
@@ -19,7 +19,7 @@ pub extern "C" fn gedrashiw_combined_depths(
     ba: &[u16],
     out: &mut [u16],
 ) -> Count
-    ensures value { result ≡ depths_count (answer Refused (combined_refused positions ab.now ba.now out.old) (Written positions)) }
+    ensures value { result ≡ count_reply (answer (combined_refused positions ab.now ba.now out.old) positions) }
     ensures out_after { out.new ≡ after (combined_refused positions ab.now ba.now out.old) (combined_depths positions ab.now ba.now) out.old }
 {
     rust_metrics::gedrashiw_combined_depths(positions, ab, ba, out)

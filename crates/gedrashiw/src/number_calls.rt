@@ -4,13 +4,13 @@ ghost use Rattle.phred.specs.Phred.{capped_quality};
 ghost use Rattle.caller.specs.Short.{short, short_of};
 ghost use Rattle.rates.specs.Rate.{bits_of};
 ghost use Rattle.caller.specs.Rate.{error_rate};
-ghost use Rattle.rust_numbers.specs.Replies.{rate_reply, name_reply, bit, pattern_number, no_bases, bases_reply, call_reply};
-ghost use Rattle.lists.specs.Output.{answer, after};
+ghost use Rattle.rust_numbers.specs.Replies.{rate_reply, bit, pattern_number, no_bases, bases_reply, call_reply};
+ghost use Rattle.refusals.specs.Outcome.{answer, after};
 ghost use Rattle.caller.specs.Name.{read_name, name_refused};
-ghost use Rattle.caller.specs.declared.ReadName.TheVariants.{Refused, Written};
 ghost use Rattle.methylation.specs.Methylation.{is_enabled, pattern_of_flags, pattern_bases, is_cpg_context};
-ghost use Rattle.replies.specs.Choices.{mode_of, wrong_mode, pattern_of, wrong_pattern, yes};
-ghost use Rattle.replies.specs.Replies.{no_number, numbered};
+ghost use Rattle.methylation.specs.Choices.{mode_of, wrong_mode, pattern_of, wrong_pattern};
+ghost use Rattle.replies.specs.Choices.{yes};
+ghost use Rattle.replies.specs.Replies.{count_reply, no_number, numbered};
 ghost use Rattle.duplex_reads.specs.Reads.{is_paired, is_paired_r1, is_paired_r2};
 ghost use Rattle.duplex_molecule.specs.Molecule.{is_error, molecule_call};
 
@@ -59,7 +59,7 @@ pub extern "C" fn gedrashiw_write_consensus_read_name(
     read_name_prefix: &[u8],
     umi: &[u8],
 ) -> Count
-    ensures value { result ≡ name_reply (answer Refused (name_refused read_name_prefix.now umi.now out.old) (Written (length (read_name read_name_prefix.now umi.now)))) }
+    ensures value { result ≡ count_reply (answer (name_refused read_name_prefix.now umi.now out.old) (length (read_name read_name_prefix.now umi.now))) }
     ensures out_after { out.new ≡ after (name_refused read_name_prefix.now umi.now out.old) (read_name read_name_prefix.now umi.now) out.old }
 {
     rust_numbers::gedrashiw_write_consensus_read_name(out, read_name_prefix, umi)

@@ -1,5 +1,6 @@
 // A strand padded to a length. The calls are those of rust_padded.
-ghost use Rattle.replies.specs.Choices.{yes, annotation_of, wrong_annotation};
+ghost use Rattle.methylation.specs.Choices.{annotation_of, wrong_annotation};
+ghost use Rattle.replies.specs.Choices.{yes};
 ghost use Rattle.replies.specs.Replies.{no_number, RepliedAs};
 ghost use Rattle.vanilla_caller.specs.Strand.{arrays};
 ghost use Rattle.vanilla_padded.specs.Padding.{padding, PaddedAs, default_padding};

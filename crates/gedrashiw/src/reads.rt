@@ -1,7 +1,8 @@
 // The calls of a molecule's reads: the gates, and the partition by strand. The calls are those of rust_reads.
 ghost use Rattle.std.specs.Prelude.{◌≡◌};
 ghost use Rattle.duplex_reads.specs.Reads.{read_gate, same_strand};
-ghost use Rattle.rust_reads.specs.Replies.{gate_reply, same_reply, PartitionRepliedAs};
+ghost use Rattle.replies.specs.Replies.{bit_reply};
+ghost use Rattle.rust_reads.specs.Replies.{PartitionRepliedAs};
 ghost use Rattle.duplex_gate.specs.ConsensusGate.{consensus_gate};
 
 use duplex_partition::MiPart;
@@ -15,7 +16,7 @@ pub extern "C" fn gedrashiw_has_minimum_number_of_reads(
     b_reads: &[u16],
     min_reads: &[u32],
 ) -> Number
-    ensures { result ≡ gate_reply (read_gate a_reads.now b_reads.now min_reads.now) }
+    ensures { result ≡ bit_reply (read_gate a_reads.now b_reads.now min_reads.now) }
 {
     rust_reads::gedrashiw_has_minimum_number_of_reads(a_reads, b_reads, min_reads)
 }
@@ -28,7 +29,7 @@ pub extern "C" fn gedrashiw_duplex_consensus_has_minimum_reads(
     ba_depths: &[u16],
     min_reads: &[u32],
 ) -> Number
-    ensures { result ≡ gate_reply (consensus_gate positions ab_depths.now ba_depths.now min_reads.now) }
+    ensures { result ≡ bit_reply (consensus_gate positions ab_depths.now ba_depths.now min_reads.now) }
 {
     rust_reads::gedrashiw_duplex_consensus_has_minimum_reads(
         positions, ab_depths, ba_depths, min_reads,
@@ -38,7 +39,7 @@ pub extern "C" fn gedrashiw_duplex_consensus_has_minimum_reads(
 // 1: all reads have one orientation; 0: they have not.
 #[unsafe(no_mangle)]
 pub extern "C" fn gedrashiw_are_all_same_strand(reads: &[u16]) -> Number
-    ensures { result ≡ same_reply (same_strand reads.now) }
+    ensures { result ≡ bit_reply (same_strand reads.now) }
 {
     rust_reads::gedrashiw_are_all_same_strand(reads)
 }

@@ -1,6 +1,7 @@
 // Why a position of a record shows N. The calls are those of rust_reason.
 ghost use Rattle.std.specs.Prelude.{◌≡◌, ◌&&◌, ◌||◌};
-ghost use Rattle.replies.specs.Choices.{yes, annotation_of, wrong_annotation};
+ghost use Rattle.methylation.specs.Choices.{annotation_of, wrong_annotation};
+ghost use Rattle.replies.specs.Choices.{yes};
 ghost use Rattle.vanilla_caller.specs.Strand.{arrays};
 ghost use Rattle.duplex_kind.specs.Kind.{strand};
 ghost use Rattle.rust_reason.specs.Reply.{reason_for, entry_reason};

@@ -1,6 +1,7 @@
 // The duplex record of two strands and their source reads. The calls are those of duplex_consensus.
 ghost use Rattle.std.specs.Prelude.{◌||◌};
-ghost use Rattle.replies.specs.Choices.{yes, annotation_of};
+ghost use Rattle.methylation.specs.Choices.{annotation_of};
+ghost use Rattle.replies.specs.Choices.{yes};
 ghost use Rattle.vanilla_caller.specs.Strand.{arrays};
 ghost use Rattle.duplex_outputs.specs.Outputs.{record_of};
 ghost use Rattle.duplex_kind.specs.Kind.{strand};

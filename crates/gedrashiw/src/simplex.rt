@@ -1,5 +1,6 @@
 // A strand's annotation from its source reads. The calls are those of simplex_methylation.
-ghost use Rattle.replies.specs.Choices.{yes, pattern_of, wrong_pattern};
+ghost use Rattle.methylation.specs.Choices.{pattern_of, wrong_pattern};
+ghost use Rattle.replies.specs.Choices.{yes};
 ghost use Rattle.methylation.specs.Arrays.{evidence_arrays};
 ghost use Rattle.simplex_methylation.specs.Simplex.{setting, AnnotatedAs};
 

@@ -1,21 +1,19 @@
 // A strand's depths, and the evidence of its annotation. The calls are those of rust_strand.
 ghost use Rattle.std.specs.Prelude.{◌≡◌, length};
 ghost use Rattle.vanilla_caller.specs.Depth.{max_depth, min_depth};
-ghost use Rattle.rust_strand.specs.Answers.{depth_number, positions_count};
-ghost use Rattle.replies.specs.Replies.{PassedOn};
+ghost use Rattle.replies.specs.Replies.{PassedOn, count_reply, number_reply};
 ghost use Rattle.methylation.specs.Arrays.{evidence_arrays};
 ghost use Rattle.methylation_evidence.specs.Gate.{GatedAs};
 ghost use Rattle.methylation_evidence.specs.Truncate.{TruncatedAs};
-ghost use Rattle.lists.specs.Output.{answer, after};
+ghost use Rattle.refusals.specs.Outcome.{answer, after};
 ghost use Rattle.methylation_evidence.specs.Counts.{tag_counts, counts_refused, summed_counts, summed_refused};
-ghost use Rattle.methylation_evidence.specs.declared.Positions.TheVariants.{Refused, Written};
 
 use replies::{Count, Number};
 
 // The largest depth of a strand. Refuses by 7.
 #[unsafe(no_mangle)]
 pub extern "C" fn gedrashiw_max_depth(depths: &[u16]) -> Number
-    ensures { result ≡ depth_number (max_depth depths.now) }
+    ensures { result ≡ number_reply (max_depth depths.now) }
 {
     rust_strand::gedrashiw_max_depth(depths)
 }
@@ -23,7 +21,7 @@ pub extern "C" fn gedrashiw_max_depth(depths: &[u16]) -> Number
 // The smallest depth of a strand. Refuses by 7.
 #[unsafe(no_mangle)]
 pub extern "C" fn gedrashiw_min_depth(depths: &[u16]) -> Number
-    ensures { result ≡ depth_number (min_depth depths.now) }
+    ensures { result ≡ number_reply (min_depth depths.now) }
 {
     rust_strand::gedrashiw_min_depth(depths)
 }
@@ -35,7 +33,7 @@ pub extern "C" fn gedrashiw_gate_to_informative(
     unconverted: &mut [u32],
     converted: &mut [u32],
 ) -> Count
-    ensures { PassedOn positions_count GatedAs
+    ensures { PassedOn count_reply GatedAs
         (evidence_arrays marks.old unconverted.old converted.old)
         (evidence_arrays marks.new unconverted.new converted.new)
         result }
@@ -54,7 +52,7 @@ pub extern "C" fn gedrashiw_truncate(
     unconverted_out: &mut [u32],
     converted_out: &mut [u32],
 ) -> Count
-    ensures { PassedOn positions_count
+    ensures { PassedOn count_reply
         (TruncatedAs (evidence_arrays marks.now unconverted.now converted.now) len)
         (evidence_arrays marks_out.old unconverted_out.old converted_out.old)
         (evidence_arrays marks_out.new unconverted_out.new converted_out.new)
@@ -74,7 +72,7 @@ pub extern "C" fn gedrashiw_truncate(
 // The unconverted counts as tags hold them. Refuses by 7, 12.
 #[unsafe(no_mangle)]
 pub extern "C" fn gedrashiw_unconverted_counts(unconverted: &[u32], out: &mut [u16]) -> Count
-    ensures value { result ≡ positions_count (answer Refused (counts_refused unconverted.now out.old) (Written (length unconverted.now))) }
+    ensures value { result ≡ count_reply (answer (counts_refused unconverted.now out.old) (length unconverted.now)) }
     ensures out_after { out.new ≡ after (counts_refused unconverted.now out.old) (tag_counts unconverted.now) out.old }
 {
     rust_strand::gedrashiw_unconverted_counts(unconverted, out)
@@ -83,7 +81,7 @@ pub extern "C" fn gedrashiw_unconverted_counts(unconverted: &[u32], out: &mut [u
 // The converted counts as tags hold them. Refuses by 7, 12.
 #[unsafe(no_mangle)]
 pub extern "C" fn gedrashiw_converted_counts(converted: &[u32], out: &mut [u16]) -> Count
-    ensures value { result ≡ positions_count (answer Refused (counts_refused converted.now out.old) (Written (length converted.now))) }
+    ensures value { result ≡ count_reply (answer (counts_refused converted.now out.old) (length converted.now)) }
     ensures out_after { out.new ≡ after (counts_refused converted.now out.old) (tag_counts converted.now) out.old }
 {
     rust_strand::gedrashiw_converted_counts(converted, out)
@@ -97,7 +95,7 @@ pub extern "C" fn gedrashiw_summed_counts(
     b: &[u32],
     out: &mut [u16],
 ) -> Count
-    ensures value { result ≡ positions_count (answer Refused (summed_refused positions a.now b.now out.old) (Written positions)) }
+    ensures value { result ≡ count_reply (answer (summed_refused positions a.now b.now out.old) positions) }
     ensures out_after { out.new ≡ after (summed_refused positions a.now b.now out.old) (summed_counts positions a.now b.now) out.old }
 {
     rust_strand::gedrashiw_summed_counts(positions, a, b, out)

@@ -1,13 +1,12 @@
 // The methylation tags of a record. The calls are those of rust_methylation.
-ghost use Rattle.replies.specs.Choices.{pattern_of, wrong_pattern, annotation_of, wrong_annotation, mode_of, wrong_mode};
-ghost use Rattle.replies.specs.Replies.{not_counted, RepliedAs};
-ghost use Rattle.rust_strand.specs.Answers.{positions_count};
+ghost use Rattle.methylation.specs.Choices.{pattern_of, wrong_pattern, annotation_of, wrong_annotation, mode_of, wrong_mode};
+ghost use Rattle.replies.specs.Replies.{not_counted, count_reply, RepliedAs};
 ghost use Rattle.rust_methylation.specs.Entries.{RestoredAs, StrandBasesAs, tags_reply, mm_ml_reply, tag_arrays, TagsAs, mm_reply, duplex_tags_reply, duplex_arrays, DuplexTagsAs};
-ghost use Rattle.std.specs.Prelude.{◌||◌};
+ghost use Rattle.std.specs.Prelude.{◌||◌, Err};
+ghost use Rattle.refusals.specs.declared.Refusal.TheVariants.{Broken};
 ghost use Rattle.mm_ml.specs.Tags.{annotated, MmTaggedAs};
 ghost use Rattle.duplex_texts.specs.Texts.{strand, text_arrays};
 ghost use Rattle.duplex_tags.specs.Tags.{count_arrays};
-ghost use Rattle.duplex_tags.specs.declared.DuplexMethylationTags.TheVariants.{Refused};
 
 use replies::Count;
 use rust_methylation::{DuplexTagsReply, TagsReply};
@@ -19,7 +18,7 @@ pub extern "C" fn gedrashiw_restore_unconverted_bases(
     pattern: u8,
     marks: &[u8],
 ) -> Count
-    ensures { RepliedAs (wrong_pattern pattern) (not_counted 13) positions_count (RestoredAs (pattern_of pattern) marks.now)
+    ensures { RepliedAs (wrong_pattern pattern) (not_counted 13) count_reply (RestoredAs (pattern_of pattern) marks.now)
         consensus_bases.old consensus_bases.new result }
 {
     rust_methylation::gedrashiw_restore_unconverted_bases(consensus_bases, pattern, marks)
@@ -33,7 +32,7 @@ pub extern "C" fn gedrashiw_methylation_strand_bases(
     marks: &[u8],
     out: &mut [u8],
 ) -> Count
-    ensures { RepliedAs (wrong_annotation annotation) (not_counted 13) positions_count (StrandBasesAs (annotation_of annotation) bases.now marks.now)
+    ensures { RepliedAs (wrong_annotation annotation) (not_counted 13) count_reply (StrandBasesAs (annotation_of annotation) bases.now marks.now)
         out.old out.new result }
 {
     rust_methylation::gedrashiw_methylation_strand_bases(bases, annotation, marks, out)
@@ -120,7 +119,7 @@ pub extern "C" fn gedrashiw_duplex_methylation_tags(
     unconverted_out: &mut [u16],
     converted_out: &mut [u16],
 ) -> DuplexTagsReply
-    ensures { RepliedAs ((wrong_annotation a_annotation || wrong_annotation b_annotation) || wrong_mode mode) (duplex_tags_reply (Refused 13)) duplex_tags_reply
+    ensures { RepliedAs ((wrong_annotation a_annotation || wrong_annotation b_annotation) || wrong_mode mode) (duplex_tags_reply (Err Broken)) duplex_tags_reply
         (DuplexTagsAs (mode_of mode) bases.now
         (strand (annotation_of a_annotation) a_marks.now a_unconverted.now a_converted.now)
         (strand (annotation_of b_annotation) b_marks.now b_unconverted.now b_converted.now))

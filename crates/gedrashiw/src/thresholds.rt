@@ -1,8 +1,9 @@
 // The thresholds of read counts, and what a read is written as. The calls are those of rust_thresholds.
 ghost use Rattle.std.specs.Prelude.{◌≡◌, cond};
 ghost use Rattle.duplex_min_reads.specs.MinReads.{validated, min_yx_reads, single_strand};
-ghost use Rattle.rust_thresholds.specs.Replies.{thresholds_reply, yx_reply, single_reply, read_type_of, wrong_read_type, strand_number};
-ghost use Rattle.replies.specs.Replies.{no_number, numbered};
+ghost use Rattle.rust_thresholds.specs.Replies.{thresholds_reply, strand_number};
+ghost use Rattle.replies.specs.Replies.{bit_reply, no_number, number_reply, numbered};
+ghost use Rattle.duplex_reads.specs.Choices.{read_type_of, wrong_read_type};
 ghost use Rattle.duplex_reads.specs.Reads.{written_flags};
 ghost use Rattle.duplex_partition.specs.Partition.{strand_of};
 
@@ -18,7 +19,7 @@ pub extern "C" fn gedrashiw_validate_min_reads(min_reads: &[u32]) -> Thresholds
 
 #[unsafe(no_mangle)]
 pub extern "C" fn gedrashiw_min_yx_reads_for(min_reads: &[u32]) -> Number
-    ensures { result ≡ yx_reply (min_yx_reads min_reads.now) }
+    ensures { result ≡ number_reply (min_yx_reads min_reads.now) }
 {
     rust_thresholds::gedrashiw_min_yx_reads_for(min_reads)
 }
@@ -26,7 +27,7 @@ pub extern "C" fn gedrashiw_min_yx_reads_for(min_reads: &[u32]) -> Number
 // 1: allowed; 0: not.
 #[unsafe(no_mangle)]
 pub extern "C" fn gedrashiw_allows_single_strand_consensus(min_reads: &[u32]) -> Number
-    ensures { result ≡ single_reply (single_strand min_reads.now) }
+    ensures { result ≡ bit_reply (single_strand min_reads.now) }
 {
     rust_thresholds::gedrashiw_allows_single_strand_consensus(min_reads)
 }

@@ -1,16 +1,22 @@
--- `c_interface::gedrashiw_duplex_consensus` meets its contract: a wrong pattern is refused, all else is the call on bytes. Assumes
+-- `c_interface::gedrashiw_duplex_consensus` meets its contract: the combination of the strands as far as they are looked at. Assumes
 -- nothing.
-use Rattle.c_interface.proofs.Entry.{same_strand_lem, turned_down, passed_on}
+use Rattle.replies.specs.Choices.{yes}
+use Rattle.molecule_strand.specs.Strand.{strand_bytes, annotation_of}
+use Rattle.c_interface.specs.Entry.{told}
+use Rattle.c_interface.proofs.Entry.{entry_as}
 use Rattle.c_interface.proofs.gedrashiw_duplex_consensus.Goals as goal
-
-pub returns-then-wrong_pattern : goal.returns-then-wrong_pattern
-returns-then-wrong_pattern c =
-    turned_down _ _ _ _ _ _ _ c.wrong_pattern.ensures c.wrong_pattern-2.ensures c.if-wrong_pattern.true c.record_for.ensures
 
 pub returns : goal.returns
 returns c =
-    passed_on _ _ _ _ _ _ _ c.wrong_pattern.ensures c.wrong_pattern-2.ensures c.if-wrong_pattern.false
-    (same_strand_lem _ _ _ _ _ _ c.annotation_of.ensures)
-    (same_strand_lem _ _ _ _ _ _ c.annotation_of-2.ensures)
-    c.duplex_consensus_bytes.ensures
-    c.record_for-2.ensures
+    let g = c.args in
+    entry_as _ _
+    (strand_bytes (yes g.a_present) (annotation_of (told g.a_present g.a_annotated) g.a_pattern) g.a_bases.now g.a_quals.now g.a_depths.now g.a_errors.now g.a_evidence.now)
+    (strand_bytes (yes g.b_present) (annotation_of (told g.b_present g.b_annotated) g.b_pattern) g.b_bases.now g.b_quals.now g.b_depths.now g.b_errors.now g.b_evidence.now)
+    (yes g.listed) g.reads
+    (rw c.told.ensures at c.wrong_pattern.ensures)
+    (rw c.told-2.ensures at c.wrong_pattern-2.ensures)
+    c.strand_given.ensures
+    c.strand_given-2.ensures
+    c.then_some.ensures
+    c.consensus.ensures
+    c.from.ensures

@@ -4,7 +4,7 @@ use Rattle.c_tags.proofs.write_summed.Goals as goal
 
 pub returns : goal.returns
 returns c =
-    summed c.args.positions c.args.a.now c.args.b.now c.args.out.now c.requires.fits c.requires.a_len_bound.0 c.requires.a_len_bound.1
+    summed c.args.positions c.args.a.now c.args.b.now c.args.out.now c.requires.fits c.requires.few.0 c.requires.few.1
     c.summed_counts.ensures.out_after
-    c.front_u16.ensures
-    c.write_u16s.ensures
+    c.front.ensures
+    c.write.ensures
