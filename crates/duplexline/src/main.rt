@@ -27,6 +27,7 @@ fn read_full(input: &mut impl Read, buf: &mut [u8]) -> usize
 // There is room for a byte more than an encoded molecule can have, so that one that is too long is seen to be. The status is 0,
 // also where not all could be read or printed.
 fn main(rt: HostRuntime) {
+    // No heap: arrays of the most that is looked at.
     let mut input = [0; 65537];
     let n = read_full(&mut rt.stdin(), &mut input);
     let line = duplex_line(&input[0..n]);

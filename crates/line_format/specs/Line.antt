@@ -4,6 +4,7 @@ use Rattle.decimal.specs.Decimal.{decimal}
 use Rattle.line_output.specs.Text.{ascii, comma_list, printed}
 use Rattle.metrics_bits.specs.declared.MetricsBits.{MetricsBits}
 use Rattle.line_metrics.specs.MetricsText.{metrics_text}
+use Rattle.line_format.specs.declared.RecordColumns.{RecordColumns}
 use Rattle.line_format.specs.declared.Kind.{Kind}
 use Rattle.line_format.specs.declared.Kind.TheVariants.{Ab, Ba, Both}
 
@@ -15,6 +16,10 @@ pub record Columns : Type 0 where
 
 abbrev pub columns : List ℕ → List ℕ → List ℕ → Columns
 columns bases quals errors = record { bases = bases; quals = quals; errors = errors }
+
+-- Those that are lent.
+abbrev pub columns_in : RecordColumns → Columns
+columns_in row = columns row.bases.now row.quals.now row.errors.now
 
 unfoldable pub header : List ℕ
 header = ascii "kind gate bases quals errors aD aM aE bD bM bE cD cM cE nc\n"

@@ -1,15 +1,17 @@
 // The texts that a record is reported with: a header and a line of what the record is, that there is none, or a refusal. Uses
-// decimal, line_output, metrics_bits and line_metrics.
+// refusals, decimal, line_output, metrics_bits and line_metrics.
 #![tactic(auto)]
 
 ghost use Rattle.std.specs.Prelude.{◌≤◌, length};
+ghost use Rattle.refusals.specs.Refusal.{number_of};
 ghost use Rattle.line_output.specs.Text.{Written, Appended};
 ghost use Rattle.line_metrics.specs.MetricsText.{metrics_text};
-ghost use Rattle.line_format.specs.Line.{columns, kind_text, gate_text, columns_text, opening, closing, line_text, none_text, refused_text, Short, Typed};
+ghost use Rattle.line_format.specs.Line.{columns_in, kind_text, gate_text, columns_text, opening, closing, line_text, none_text, refused_text, Short, Typed};
 
 use line_metrics::write_metrics;
 use line_output::{write_number, write_printed, write_text, write_u8s, write_u16s};
 use metrics_bits::MetricsBits;
+use refusals::Refusal;
 
 // What stands above each record.
 pub const HEADER: [u8; 59] = *b"kind gate bases quals errors aD aM aE bD bM bE cD cM cE nc\n";
@@ -18,11 +20,19 @@ pub const HEADER: [u8; 59] = *b"kind gate bases quals errors aD aM aE bD bM bE c
 pub const LINE_BYTES: usize = 12288;
 
 // What a record is made of: strand A, strand B, or both.
-#[derive(Clone, Copy)]
+#[derive(Clone, Copy, Debug, PartialEq, Eq)]
 pub enum Kind {
     Ab,
     Ba,
     Both,
+}
+
+// The consensus positions of a record, or the arrays that they stand in.
+#[derive(Clone, Copy)]
+pub struct RecordColumns<'a> {
+    pub bases: &'a [u8],
+    pub quals: &'a [u8],
+    pub errors: &'a [u16],
 }
 
 fn write_kind(kind: Kind, out: &mut [u8], at: usize) -> usize
@@ -56,15 +66,15 @@ fn write_opening(kind: Kind, kept: bool, out: &mut [u8]) -> usize
 }
 
 // The consensus positions.
-fn write_columns(bases: &[u8], quals: &[u8], errors: &[u16], out: &mut [u8], at: usize) -> usize
-    ensures appended { Appended (columns_text (columns bases.now quals.now errors.now)) at out.old out.new result }
-    ensures typed { Typed (columns bases.now quals.now errors.now) }
+fn write_columns(row: RecordColumns, out: &mut [u8], at: usize) -> usize
+    ensures appended { Appended (columns_text (columns_in row.entry)) at out.old out.new result }
+    ensures typed { Typed (columns_in row.entry) }
 {
-    let at = write_printed(bases, out, at);
+    let at = write_printed(row.bases, out, at);
     let at = write_text(b" ", out, at);
-    let at = write_u8s(quals, out, at);
+    let at = write_u8s(row.quals, out, at);
     let at = write_text(b" ", out, at);
-    write_u16s(errors, out, at)
+    write_u16s(row.errors, out, at)
 }
 
 // The end of a line, after its columns.
@@ -82,17 +92,15 @@ fn write_closing(metrics: MetricsBits, out: &mut [u8], at: usize) -> usize
 pub fn write_record(
     kind: Kind,
     kept: bool,
-    bases: &[u8],
-    quals: &[u8],
-    errors: &[u16],
+    row: RecordColumns,
     metrics: MetricsBits,
     out: &mut [u8],
 ) -> usize
-    ensures written { Written (line_text kind kept (columns bases.now quals.now errors.now) metrics) out.old out.new result }
-    ensures metrics_len_bound { Short (columns bases.now quals.now errors.now) → length (line_text kind kept (columns bases.now quals.now errors.now) metrics) ≤ 12288 }
+    ensures written { Written (line_text kind kept (columns_in row.entry) metrics) out.old out.new result }
+    ensures metrics_len_bound { Short (columns_in row.entry) → length (line_text kind kept (columns_in row.entry) metrics) ≤ 12288 }
 {
     let at = write_opening(kind, kept, out);
-    let at = write_columns(bases, quals, errors, out, at);
+    let at = write_columns(row, out, at);
     write_closing(metrics, out, at)
 }
 
@@ -107,10 +115,11 @@ pub fn write_none(out: &mut [u8]) -> usize
 }
 
 // A refusal, with no header.
-pub fn write_refused(number: u8, out: &mut [u8]) -> usize
-    ensures written { Written (refused_text number) out.old out.new result }
-    ensures number_len_bound { length (refused_text number) ≤ 12288 }
+pub fn write_refused(refusal: Refusal, out: &mut [u8]) -> usize
+    ensures written { Written (refused_text (number_of refusal)) out.old out.new result }
+    ensures number_len_bound { length (refused_text (number_of refusal)) ≤ 12288 }
 {
+    let number = refusal.number();
     let at = write_text(b"refused ", out, 0);
     let at = write_number(number as u64, out, at);
     write_text(b"\n", out, at)

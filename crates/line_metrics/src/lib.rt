@@ -14,7 +14,7 @@ fn write_field(n: u32, out: &mut [u8], at: usize) -> usize
     ensures n_len_bound { length (field n) ≤ 11 }
 {
     let at = write_text(b" ", out, at);
-    write_number(n as u64, out, at)
+    write_number(u64::from(n), out, at)
 }
 
 // A blank and the bits of a rate in hexadecimal.

@@ -1,43 +1,37 @@
--- A molecule's strands from the parts of its bytes. Assumes nothing.
+-- The evidence in an annotation's value, and a molecule's strands and reads. Assumes nothing.
 use mathlib.Core.Path.{◌≡◌}
 use mathlib.Core.List.{List, [], ◌∷◌}
 use Prim.Native.Nat.{ℕ, ◌-◌, min}
 use native.Mathlib.Omega.{arith}
 use lib.ListN.{length, take, drop}
 use lib.Seq.{take_all}
-use Rattle.methylation.specs.declared.Annotation.{Annotation}
-use Rattle.molecule_encoding.specs.Format.{value_at}
-use Rattle.molecule_encoding.specs.declared.StrandFields.{StrandFields}
+use denote.Ref.{Bor}
+use Rattle.std.proofs.Common.{Option, None, Some}
+use Rattle.std.specs.Prelude.{is_some}
+use Rattle.molecule_errors.specs.Run.{run_in}
+use Rattle.molecule_encoding.specs.Parts.{value_in, parts_in}
 use Rattle.molecule_encoding.specs.declared.Molecule.{Molecule}
-use Rattle.molecule_strand.specs.Strand.{StrandBytes, strand_bytes}
+use Rattle.molecule_strand.specs.Strand.{StrandBytes}
 use Rattle.line_record.specs.Line.{Holds}
 use Rattle.line_record.specs.declared.Line.{Line}
 use Rattle.line_strands.specs.Strands.{strands_text}
-use Rattle.line_molecule.specs.Line.{annotation_in, strand_in, read_text}
+use Rattle.line_molecule.specs.Line.{value_or, strand_in, parts_of, read_text}
 
 -- All behind the first byte, where there is one.
-pub behind_first : (xs : List ℕ) {from : ℕ} → from ≡ min 1 (length xs) → take (length xs - from) (drop from xs) ≡ drop 1 xs
+pub behind_first : (xs : List ℕ) {from : ℕ} → from ≡ min (length xs) 1 → take (length xs - from) (drop from xs) ≡ drop 1 xs
 behind_first [] {from} e = let none : from ≡ 0 = omega arith in rw none
 behind_first (x ∷ xs) {from} e = let one : from ≡ 1 = omega arith in rw one (take_all (length (x ∷ xs) - 1) xs (omega arith))
 
-pub strand_is :
-    (bytes : List ℕ) (s : StrandFields) {value bases quals depths errors evidence : List ℕ} {annotation : Annotation}
-    → value ≡ value_at bytes s.annotation
-    → annotation ≡ annotation_in s.annotation.present value
-    → bases ≡ value_at bytes s.bases
-    → quals ≡ value_at bytes s.quals
-    → depths ≡ value_at bytes s.depths
-    → errors ≡ value_at bytes s.errors
-    → evidence ≡ drop 1 value
-    → strand_bytes s.bases.present annotation bases quals depths errors evidence ≡ strand_in bytes s
-strand_is bytes s v a b q d e h = cc
-
+-- The text for a molecule's strands and reads, from those of the code.
 pub read_is :
-    (thresholds bytes : List ℕ) (m : Molecule) {a b : StrandBytes} {run : List ℕ} {r : Line}
-    → a ≡ strand_in bytes m.a
-    → b ≡ strand_in bytes m.b
-    → run ≡ value_at bytes m.reads
-    → Holds (strands_text thresholds a b m.reads.present run) r
-    → Holds (read_text thresholds bytes m) r
+    (thresholds : List ℕ) (m : Molecule) {a b : StrandBytes} {r : Line}
+    → a ≡ strand_in (parts_in m.a)
+    → b ≡ strand_in (parts_in m.b)
+    → Holds (strands_text thresholds a b (is_some m.reads) (run_in m.reads)) r
+    → Holds (read_text thresholds (parts_of m)) r
 unfolding read_text
-read_is thresholds bytes m ea eb er h = rw (← ea, ← eb, ← er) h
+read_is thresholds m {a} {b} {r} ea eb h = rw (← ea, ← eb) (go m.reads h)
+  where
+    go : (run : Option (Bor (List ℕ))) → Holds (strands_text thresholds a b (is_some run) (run_in run)) r → Holds (strands_text thresholds a b (is_some (value_in run)) (value_or (value_in run))) r
+    go None h = h
+    go (Some run) h = h

@@ -1,23 +1,23 @@
 -- What is returned for some bytes, by what they encode. Assumes nothing.
-use mathlib.Core.Path.{◌≡◌, sym, subst, ◌∙◌}
+use mathlib.Core.Path.{◌≡◌, subst}
 use mathlib.Core.List.{List}
 use Prim.Native.Nat.{ℕ, ◌≤◌}
 use native.Mathlib.Omega.{arith}
 use lib.ListN.{length, replicate, length-replicate}
-use Rattle.molecule_encoding.specs.Format.{decoded}
-use Rattle.molecule_encoding.specs.declared.Decoded.{Decoded}
+use Rattle.std.proofs.Common.{Result}
+use Rattle.refusals.specs.declared.Refusal.{Refusal}
+use Rattle.molecule_encoding.specs.Format.{MoleculeParts, decoded}
 use Rattle.line_output.proofs.Text.{same_size, whole}
-use Rattle.line_record.specs.Line.{blank, Holds}
+use Rattle.line_record.specs.Line.{Holds}
 use Rattle.line_record.specs.declared.Line.{Line}
 use Rattle.line_molecule.specs.Line.{decoded_text, text_of, TextIn}
 
 text_in : (text : List ℕ) (r : Line) → Holds text r → TextIn text r
-unfolding blank
 text_in text r h =
     let room : length text ≤ length {A = ℕ} (replicate 12288 0) = omega (arith, h.fits, length-replicate {A = ℕ} 12288 0) in
     let all = whole h.written room in
     record { size = all.0; bytes = all.1; most = omega (arith, all.0, h.fits); within = omega (arith, all.0, room, same_size h.written) }
 
-pub by_decoded : (bytes : List ℕ) (is : Decoded) {d : Decoded} {r : Line} → d ≡ decoded bytes → d ≡ is → Holds (decoded_text bytes is) r → TextIn (text_of bytes) r
+pub by_decoded : (bytes : List ℕ) {d : Result MoleculeParts Refusal} {r : Line} → d ≡ decoded bytes → Holds (decoded_text d) r → TextIn (text_of bytes) r
 unfolding text_of
-by_decoded bytes is {d} {r} e f h = text_in (decoded_text bytes (decoded bytes)) r (subst (λ (x : Decoded). Holds (decoded_text bytes x) r) (sym f ∙ e) h)
+by_decoded bytes {d} {r} e h = text_in (decoded_text (decoded bytes)) r (subst (λ (x : Result MoleculeParts Refusal). Holds (decoded_text x) r) e h)

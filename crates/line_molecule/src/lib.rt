@@ -1,96 +1,62 @@
 // The text that duplexline prints for an encoded molecule: the line program of document 01, but for reading and writing.
-// Uses lists, methylation, byte_numbers, molecule_encoding, duplex_min_reads, line_record and line_strands.
+// Uses lists, refusals, byte_numbers, molecule_encoding, molecule_strand, duplex_min_reads, line_record and line_strands.
 #![tactic(auto)]
 
 ghost use Rattle.std.specs.Prelude.{◌≡◌, drop};
-ghost use Rattle.molecule_encoding.specs.Format.{value_at};
+ghost use Rattle.molecule_encoding.specs.Parts.{parts_in};
+ghost use Rattle.molecule_strand.specs.Strand.{encoded_in};
 ghost use Rattle.line_record.specs.Line.{Holds};
-ghost use Rattle.line_molecule.specs.Line.{annotation_in, number_in, read_text, molecule_text, text_of, TextIn};
+ghost use Rattle.line_molecule.specs.Line.{strand_in, parts_of, molecule_text, text_of, TextIn};
 
-use byte_numbers::read_u32s;
-use duplex_min_reads::{Validated, validate_min_reads};
+use duplex_min_reads::validate_min_reads;
 use line_record::{Line, refused_line};
 use line_strands::strands_line;
-use lists::{at_u8, part_u8, smaller};
-use methylation::Annotation;
-use molecule_encoding::{Decoded, Molecule, Span, read_molecule};
-
-fn value(bytes: &[u8], span: Span) -> &[u8]
-    ensures { result.now ≡ value_at bytes.now span }
-{
-    let offset = span.offset;
-    let length = span.length;
-    part_u8(bytes, offset, length)
-}
-
-// An annotation's pattern, where it is present.
-fn annotation_of(present: bool, value: &[u8]) -> Annotation
-    ensures { result ≡ annotation_in present value.now }
-{
-    molecule_strand::annotation_of(present, at_u8(value, 0, 0))
-}
+use lists::get_or;
+use molecule_encoding::{Molecule, StrandFields, read_molecule};
+use molecule_strand::{EncodedStrand, annotation_of};
 
 // The evidence in an annotation's value: all after the pattern.
 fn evidence_of(value: &[u8]) -> &[u8]
     ensures { result.now ≡ drop 1 value.now }
 {
-    let from = smaller(1, value.len());
+    let from = value.len().min(1);
     &value[from..]
 }
 
-// The line for the strands of a molecule and its reads.
-fn read_line(bytes: &[u8], m: Molecule, min_reads: &[u32]) -> Line
-    ensures { Holds (read_text min_reads.now bytes.now m) result }
+// A strand of a molecule. An annotation's value is its pattern byte and then the evidence.
+fn strand_of<'a>(s: Option<StrandFields<'a>>) -> Option<EncodedStrand<'a>>
+    ensures { encoded_in result ≡ strand_in (parts_in s.entry) }
 {
-    let a = m.a;
-    let b = m.b;
-    let a_annotation = value(bytes, a.annotation);
-    let b_annotation = value(bytes, b.annotation);
-    strands_line(
-        a.bases.present,
-        annotation_of(a.annotation.present, a_annotation),
-        value(bytes, a.bases),
-        value(bytes, a.quals),
-        value(bytes, a.depths),
-        value(bytes, a.errors),
-        evidence_of(a_annotation),
-        b.bases.present,
-        annotation_of(b.annotation.present, b_annotation),
-        value(bytes, b.bases),
-        value(bytes, b.quals),
-        value(bytes, b.depths),
-        value(bytes, b.errors),
-        evidence_of(b_annotation),
-        m.reads.present,
-        value(bytes, m.reads),
-        min_reads,
-    )
-}
-
-// The number of a refusal, 0 for none.
-fn number_in(answer: Validated) -> u8
-    ensures { result ≡ number_in answer }
-{
-    match answer {
-        Validated::Refused(number) => number,
-        Validated::Thresholds(_) => 0,
+    match s {
+        Some(s) => {
+            let value = s.annotation.unwrap_or(&[]);
+            Some(EncodedStrand {
+                annotation: annotation_of(s.annotation.is_some(), get_or(value, 0, 0)),
+                bases: s.bases,
+                quals: s.quals,
+                depths: s.depths,
+                errors: s.errors,
+                evidence: evidence_of(value),
+            })
+        }
+        None => None,
     }
 }
 
 // The line of a molecule. More than 4 thresholds are refused as 4 are, so that no more are read.
-fn molecule_line(bytes: &[u8], m: Molecule) -> Line
-    ensures { Holds (molecule_text bytes.now m) result }
+fn molecule_line(m: Molecule) -> Line
+    ensures { Holds (molecule_text (parts_of m.entry)) result }
 {
-    let values = value(bytes, m.thresholds);
+    let values = m.thresholds.unwrap_or(&[]);
+    // No heap: arrays of the most that is looked at.
     let mut thresholds = [0; 4];
-    read_u32s(values, &mut thresholds);
-    let count = smaller(4, values.len() / 4);
+    byte_numbers::read(values, &mut thresholds);
+    let count = (values.len() / 4).min(4);
     let min_reads = &thresholds[0..count];
-    let answer = validate_min_reads(min_reads);
-    let Validated::Thresholds(_) = answer else {
-        return refused_line(number_in(answer));
-    };
-    read_line(bytes, m, min_reads)
+    match validate_min_reads(min_reads) {
+        Ok(_) => strands_line(strand_of(m.a), strand_of(m.b), m.reads, min_reads),
+        Err(refusal) => refused_line(refusal),
+    }
 }
 
 // The text for the bytes of an encoded molecule.
@@ -98,7 +64,7 @@ pub fn duplex_line(bytes: &[u8]) -> Line
     ensures { TextIn (text_of bytes.now) result }
 {
     match read_molecule(bytes) {
-        Decoded::Refused(number) => refused_line(number),
-        Decoded::Of(m) => molecule_line(bytes, m),
+        Ok(m) => molecule_line(m),
+        Err(refusal) => refused_line(refusal),
     }
 }

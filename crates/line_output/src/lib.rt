@@ -9,34 +9,34 @@ ghost use Rattle.line_output.specs.Text.{comma_list, item, visible, printed, Wri
 
 use decimal::write_decimal;
 use hexadecimal::write_hexadecimal;
-use lists::{copy_u8, smaller};
+use lists::copy;
 
 // A text as it is.
 pub fn write_text(text: &[u8], out: &mut [u8], at: usize) -> usize
     ensures { Appended text.now at out.old out.new result }
 {
-    let from = smaller(out.len(), at);
+    let from = out.len().min(at);
     let room = out.len() - from;
-    copy_u8(text, &mut out[from..]);
-    from + smaller(room, text.len())
+    copy(text, &mut out[from..]);
+    from + room.min(text.len())
 }
 
 // A number in decimal.
 pub fn write_number(n: u64, out: &mut [u8], at: usize) -> usize
     ensures { Appended (decimal n) at out.old out.new result }
 {
-    let from = smaller(out.len(), at);
+    let from = out.len().min(at);
     let room = out.len() - from;
-    from + smaller(room, write_decimal(n, &mut out[from..]))
+    from + room.min(write_decimal(n, &mut out[from..]))
 }
 
 // A 32-bit number in hexadecimal.
 pub fn write_bits(n: u32, out: &mut [u8], at: usize) -> usize
     ensures { Appended (hexadecimal n) at out.old out.new result }
 {
-    let from = smaller(out.len(), at);
+    let from = out.len().min(at);
     let room = out.len() - from;
-    from + smaller(room, write_hexadecimal(n, &mut out[from..]))
+    from + room.min(write_hexadecimal(n, &mut out[from..]))
 }
 
 // The number at a place of a list: in decimal, behind a comma unless it is the first.
@@ -51,15 +51,14 @@ fn write_item(place: usize, n: u64, out: &mut [u8], at: usize) -> usize
 }
 
 // Numbers in decimal with commas: of 8 bits, so at most 4 bytes for each.
+// Not one function for both: the bound on the text is another for each width.
 pub fn write_u8s(numbers: &[u8], out: &mut [u8], at: usize) -> usize
     ensures appended { Appended (comma_list numbers.now) at out.old out.new result }
     ensures numbers_len_bound { length (comma_list numbers.now) ≤ 4 * length numbers.now }
 {
-    let mut end = smaller(out.len(), at);
-    let mut i = 0;
-    while i < numbers.len() {
-        end = write_item(i, numbers[i] as u64, out, end);
-        i += 1;
+    let mut end = out.len().min(at);
+    for (i, &number) in numbers.iter().enumerate() {
+        end = write_item(i, number as u64, out, end);
     }
     end
 }
@@ -69,16 +68,15 @@ pub fn write_u16s(numbers: &[u16], out: &mut [u8], at: usize) -> usize
     ensures appended { Appended (comma_list numbers.now) at out.old out.new result }
     ensures numbers_len_bound { length (comma_list numbers.now) ≤ 6 * length numbers.now }
 {
-    let mut end = smaller(out.len(), at);
-    let mut i = 0;
-    while i < numbers.len() {
-        end = write_item(i, numbers[i] as u64, out, end);
-        i += 1;
+    let mut end = out.len().min(at);
+    for (i, &number) in numbers.iter().enumerate() {
+        end = write_item(i, number as u64, out, end);
     }
     end
 }
 
 // A byte as it is printed.
+#[tactic(auto, unfolding(crate::specs::Text::visible))]
 fn visible_byte(b: u8) -> u8
     ensures { result ≡ visible b }
 {
@@ -89,11 +87,9 @@ fn visible_byte(b: u8) -> u8
 fn print_bytes(bytes: &[u8], out: &mut [u8]) -> usize
     ensures { Written (printed bytes.now) out.old out.new result }
 {
-    let n = smaller(out.len(), bytes.len());
-    let mut i = 0;
-    while i < n {
+    let n = out.len().min(bytes.len());
+    for i in 0..n {
         out[i] = visible_byte(bytes[i]);
-        i += 1;
     }
     n
 }
@@ -102,6 +98,6 @@ fn print_bytes(bytes: &[u8], out: &mut [u8]) -> usize
 pub fn write_printed(bytes: &[u8], out: &mut [u8], at: usize) -> usize
     ensures { Appended (printed bytes.now) at out.old out.new result }
 {
-    let from = smaller(out.len(), at);
+    let from = out.len().min(at);
     from + print_bytes(bytes, &mut out[from..])
 }

@@ -1,7 +1,6 @@
 -- What a line holds.
---     of_any                   a text that there is room for whatever the arrays are
---     by_report, by_answer     the text of a report and of an answer
---     from_fronts              the text of a record from the fronts of its arrays
+--     of_any          a text that there is room for whatever the arrays are
+--     from_fronts     the text of a record from the fronts of its arrays
 -- Assumes nothing.
 use mathlib.Core.Path.{◌≡◌, subst}
 use mathlib.Core.Bool.{Bool}
@@ -9,14 +8,11 @@ use mathlib.Core.List.{List}
 use Prim.Native.Nat.{ℕ, ◌≤◌}
 use native.Mathlib.Omega.{arith}
 use lib.ListN.{length, take, length-take}
-use Rattle.duplex_kind.specs.declared.DuplexConsensus.{DuplexConsensus}
 use Rattle.metrics_bits.specs.declared.MetricsBits.{MetricsBits}
 use Rattle.line_format.specs.Line.{Columns, columns, line_text, Short}
 use Rattle.line_format.specs.declared.Kind.{Kind}
-use Rattle.line_report.specs.Report.{Strands, reported}
-use Rattle.line_report.specs.declared.Report.{Report}
 use Rattle.line_record.specs.declared.Line.{Line}
-use Rattle.line_record.specs.Line.{front, report_text, answer_text, Within, Holds, HoldsOf}
+use Rattle.line_record.specs.Line.{front, Within, Holds, HoldsOf}
 
 short_front : (n : ℕ) (c : Columns) → Short c → Short (front n c)
 short_front n c s = record {
@@ -28,13 +24,6 @@ short_front n c s = record {
 module _ (c : Columns) {r : Line} where
   pub of_any : {text : List ℕ} → Holds text r → HoldsOf text c r
   of_any h = record { written = h.written; fits = λ _. h.fits }
-
-  pub by_report : {report : Report} (is : Report) → report ≡ is → HoldsOf (report_text is c) c r → HoldsOf (report_text report c) c r
-  by_report is e h = rw e h
-
-  pub by_answer : (made : DuplexConsensus) (s : Strands) (thresholds : List ℕ) {report : Report} → report ≡ reported made s thresholds c.bases c.errors → HoldsOf (report_text report c) c r → HoldsOf (answer_text made s thresholds c) c r
-  unfolding answer_text
-  by_answer made s thresholds e h = subst (λ (x : Report). HoldsOf (report_text x c) c r) e h
 
   pub from_fronts :
       (kind : Kind) (n : ℕ) (kept : Bool) (m : MetricsBits) {b q e : List ℕ}

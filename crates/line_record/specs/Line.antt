@@ -1,28 +1,33 @@
 -- The text that a duplex record is reported with, document 01: its line program, from an answer of the library and the arrays around it.
-use Rattle.std.specs.Prelude.{ℕ, ◌≤◌, List, length, take, replicate}
+use Rattle.std.specs.Prelude.{ℕ, ◌≤◌, Option, None, Some, Result, Ok, Err, List, length, take, replicate}
 use Rattle.duplex_kind.specs.declared.DuplexConsensus.{DuplexConsensus}
+use Rattle.refusals.specs.declared.Refusal.{Refusal}
+use Rattle.refusals.specs.Refusal.{number_of}
 use Rattle.line_output.specs.Text.{Written}
 use Rattle.line_format.specs.Line.{Columns, columns, line_text, none_text, refused_text, Short}
 use Rattle.line_report.specs.Report.{Strands, reported}
 use Rattle.line_report.specs.declared.Report.{Report}
-use Rattle.line_report.specs.declared.Report.TheVariants.{Refused, NoRecord, Of}
 use Rattle.line_record.specs.declared.Line.{Line}
 
 -- The first n positions.
 abbrev pub front : ℕ → Columns → Columns
 front n c = columns (take n c.bases) (take n c.quals) (take n c.errors)
 
--- The text of a report, given the arrays that a record was written to.
-unfoldable pub report_text : Report → Columns → List ℕ
-report_text (Refused number) c = refused_text number
-report_text NoRecord c = none_text
-report_text (Of kind n kept metrics) c = line_text kind kept (front n c) metrics
+-- The text of a record's report, given the arrays that the record was written to.
+abbrev pub some_text : Report → Columns → List ℕ
+some_text report c = line_text report.kind report.kept (front report.positions c) report.metrics
+
+-- The text of what is reported.
+abbrev pub report_text : Result (Option Report) Refusal → Columns → List ℕ
+report_text (Err refusal) c = refused_text (number_of refusal)
+report_text (Ok None) c = none_text
+report_text (Ok (Some report)) c = some_text report c
 
 -- The text of an answer, given what there is of the strands, the thresholds, and the arrays that a record was written to.
-unfoldable pub answer_text : DuplexConsensus → Strands → List ℕ → Columns → List ℕ
+abbrev pub answer_text : Result (Option DuplexConsensus) Refusal → Strands → List ℕ → Columns → List ℕ
 answer_text made s thresholds c = report_text (reported made s thresholds c.bases c.errors) c
 
-unfoldable pub blank : List ℕ
+abbrev pub blank : List ℕ
 blank = replicate 12288 0
 
 -- A text in an array of zeros: as much of it as there is room for.

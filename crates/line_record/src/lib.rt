@@ -1,17 +1,17 @@
-// The line that a duplex record is reported with, from what the library answered and wrote. Uses lists, duplex_kind, metrics_bits, line_format
-// and line_report.
+// The line that a duplex record is reported with, from what the library answered and wrote. Uses lists, refusals, duplex_kind, line_format and
+// line_report.
 #![tactic(auto)]
 
-ghost use Rattle.byte_numbers.specs.Bytes.{words16};
-ghost use Rattle.line_format.specs.Line.{columns, line_text, none_text, refused_text};
-ghost use Rattle.line_report.specs.Report.{counts, strands};
-ghost use Rattle.line_record.specs.Line.{front, report_text, answer_text, Holds, HoldsOf};
+ghost use Rattle.line_format.specs.Line.{columns_in, none_text, refused_text};
+ghost use Rattle.refusals.specs.Refusal.{number_of};
+ghost use Rattle.line_report.specs.Report.{strands_in};
+ghost use Rattle.line_record.specs.Line.{some_text, report_text, answer_text, Holds, HoldsOf};
 
 use duplex_kind::DuplexConsensus;
-use line_format::{Kind, write_none, write_record, write_refused};
-use line_report::{Report, record_report};
-use lists::{front_u8, front_u16};
-use metrics_bits::MetricsBits;
+use line_format::{RecordColumns, write_none, write_record, write_refused};
+use line_report::{CountBytes, Report, record_report};
+use lists::front;
+use refusals::Refusal;
 
 // A text: its length, and its bytes at the front of zeros.
 #[derive(Clone, Copy)]
@@ -21,11 +21,12 @@ pub struct Line {
 }
 
 // The line of a refusal.
-pub fn refused_line(number: u8) -> Line
-    ensures { Holds (refused_text number) result }
+pub fn refused_line(refusal: Refusal) -> Line
+    ensures { Holds (refused_text (number_of refusal)) result }
 {
+    // No heap: arrays of the most that is looked at.
     let mut bytes = [0; 12288];
-    let length = write_refused(number, &mut bytes);
+    let length = write_refused(refusal, &mut bytes);
     Line { length, bytes }
 }
 
@@ -33,63 +34,55 @@ pub fn refused_line(number: u8) -> Line
 fn none_line() -> Line
     ensures { Holds none_text result }
 {
+    // No heap: arrays of the most that is looked at.
     let mut bytes = [0; 12288];
     let length = write_none(&mut bytes);
     Line { length, bytes }
 }
 
 // The line of a record, which stands at the front of the arrays.
-fn text_line(
-    kind: Kind,
-    positions: usize,
-    kept: bool,
-    metrics: MetricsBits,
-    bases: &[u8],
-    quals: &[u8],
-    errors: &[u16],
-) -> Line
-    ensures { HoldsOf (line_text kind kept (front positions (columns bases.now quals.now errors.now)) metrics) (columns bases.now quals.now errors.now) result }
+fn text_line(report: Report, row: RecordColumns) -> Line
+    ensures { HoldsOf (some_text report (columns_in row.entry)) (columns_in row.entry) result }
 {
-    let bases = front_u8(bases, positions);
-    let quals = front_u8(quals, positions);
-    let errors = front_u16(errors, positions);
+    let positions = report.positions;
+    let bases = front(row.bases, positions);
+    let quals = front(row.quals, positions);
+    let errors = front(row.errors, positions);
+    let within = RecordColumns {
+        bases,
+        quals,
+        errors,
+    };
+    // No heap: arrays of the most that is looked at.
     let mut bytes = [0; 12288];
-    let length = write_record(kind, kept, bases, quals, errors, metrics, &mut bytes);
+    let length = write_record(report.kind, report.kept, within, report.metrics, &mut bytes);
     Line { length, bytes }
 }
 
-fn report_line(report: Report, bases: &[u8], quals: &[u8], errors: &[u16]) -> Line
-    ensures { HoldsOf (report_text report (columns bases.now quals.now errors.now)) (columns bases.now quals.now errors.now) result }
+fn report_line(report: Result<Option<Report>, Refusal>, row: RecordColumns) -> Line
+    ensures { HoldsOf (report_text report (columns_in row.entry)) (columns_in row.entry) result }
 {
+    let report = match report {
+        Ok(report) => report,
+        Err(refusal) => return refused_line(refusal),
+    };
     match report {
-        Report::Refused(number) => refused_line(number),
-        Report::NoRecord => none_line(),
-        Report::Of {
-            kind,
-            positions,
-            kept,
-            metrics,
-        } => text_line(kind, positions, kept, metrics, bases, quals, errors),
+        Some(report) => text_line(report, row),
+        None => none_line(),
     }
 }
 
-// The line of an answer, from the depths and errors of the strands as bytes and the arrays that a record was written to. Its text has
-// at most 12,288 bytes where these have at most 1,024 places.
+// The line of what the library answered, from the depths and errors of the strands as bytes, the thresholds, and the arrays that a
+// record was written to.
 pub fn record_line(
-    made: DuplexConsensus,
-    a_depths: &[u8],
-    a_errors: &[u8],
-    b_depths: &[u8],
-    b_errors: &[u8],
+    made: Result<Option<DuplexConsensus>, Refusal>,
+    a: CountBytes,
+    b: CountBytes,
     min_reads: &[u32],
-    bases: &[u8],
-    quals: &[u8],
-    errors: &[u16],
+    row: RecordColumns,
 ) -> Line
-    ensures { HoldsOf (answer_text made (strands (counts (words16 a_depths.now) (words16 a_errors.now)) (counts (words16 b_depths.now) (words16 b_errors.now))) min_reads.now (columns bases.now quals.now errors.now)) (columns bases.now quals.now errors.now) result }
+    ensures { HoldsOf (answer_text made (strands_in a.entry b.entry) min_reads.now (columns_in row.entry)) (columns_in row.entry) result }
 {
-    let report = record_report(
-        made, a_depths, a_errors, b_depths, b_errors, min_reads, bases, errors,
-    );
-    report_line(report, bases, quals, errors)
+    let report = record_report(made, a, b, min_reads, row.bases, row.errors);
+    report_line(report, row)
 }

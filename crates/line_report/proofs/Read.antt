@@ -8,7 +8,7 @@ use lib.ListN.{length, take, drop, replicate, length-take, length-replicate}
 use lib.Seq.{take-append-le}
 use Rattle.lists.specs.Output.{put}
 use Rattle.lists.proofs.Output.{length_put}
-use Rattle.lists.proofs.Part.{take_min}
+use Rattle.lists.proofs.Parts.{take_min}
 use Rattle.byte_numbers.specs.Bytes.{words16}
 use Rattle.byte_numbers.proofs.Bytes.{length_numbers}
 use Rattle.line_report.specs.Counted.{Counted}

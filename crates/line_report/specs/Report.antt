@@ -1,18 +1,17 @@
 -- What is reported of an answer of the library beside its positions, document 01: its line program.
-use Rattle.std.specs.Prelude.{ℕ, Bool, true, false, List, [], take}
+use Rattle.std.specs.Prelude.{ℕ, Bool, true, false, Option, None, Some, Result, Ok, Err, List, [], take}
+use Rattle.refusals.specs.declared.Refusal.{Refusal}
+use Rattle.byte_numbers.specs.Bytes.{words16}
 use Rattle.duplex_kind.specs.declared.DuplexConsensus.{DuplexConsensus}
-use Rattle.duplex_kind.specs.declared.DuplexConsensus.TheVariants.{Refused, NoRecord, Ab, Ba, Both}
-use Rattle.duplex_reads.specs.declared.Gate.{Gate}
-use Rattle.duplex_reads.specs.declared.Gate.TheVariants.{Refused as Refused-gate, Kept, Below}
+use Rattle.duplex_kind.specs.declared.DuplexConsensus.TheVariants.{Ab, Ba, Both}
 use Rattle.duplex_gate.specs.ConsensusGate.{consensus_gate}
 use Rattle.duplex_metrics.specs.Metrics.{Input, input, metrics_of}
 use Rattle.metrics_bits.specs.Bits.{metrics_words}
-use Rattle.metrics_bits.specs.declared.MetricsWords.{MetricsWords}
-use Rattle.metrics_bits.specs.declared.MetricsWords.TheVariants.{Refused as Refused-words, Of}
+use Rattle.metrics_bits.specs.declared.MetricsBits.{MetricsBits}
 use Rattle.line_format.specs.declared.Kind.{Kind}
 use Rattle.line_format.specs.declared.Kind.TheVariants.{Ab as Ab-kind, Ba as Ba-kind, Both as Both-kind}
+use Rattle.line_report.specs.declared.CountBytes.{CountBytes}
 use Rattle.line_report.specs.declared.Report.{Report}
-use Rattle.line_report.specs.declared.Report.TheVariants.{Refused as Refused-report, NoRecord as No-report, Of as Record}
 
 -- The depths and errors of a strand.
 pub record Counts : Type 0 where
@@ -30,18 +29,29 @@ pub record Strands : Type 0 where
 abbrev pub strands : Counts → Counts → Strands
 strands a b = record { a = a; b = b }
 
--- A record of some kind and so many positions: where its gate or its metrics refuse, the refusal, the gate's first.
-abbrev pub measured_report : Kind → ℕ → Bool → MetricsWords → Report
-measured_report kind n kept (Refused-words number) = Refused-report number
-measured_report kind n kept (Of metrics) = Record kind n kept metrics
+-- Those that stand as bytes.
+abbrev pub counts_in : CountBytes → Counts
+counts_in s = counts (words16 s.depths.now) (words16 s.errors.now)
 
-abbrev pub gated_report : Kind → ℕ → Gate → MetricsWords → Report
-gated_report kind n (Refused-gate number) metrics = Refused-report number
-gated_report kind n Kept metrics = measured_report kind n true metrics
-gated_report kind n Below metrics = measured_report kind n false metrics
+abbrev pub strands_in : CountBytes → CountBytes → Strands
+strands_in a b = strands (counts_in a) (counts_in b)
+
+-- A record's own strands, the second where there is one, with the record's bases and errors.
+abbrev pub input_in : CountBytes → Option CountBytes → List ℕ → List ℕ → Input
+input_in a None bases errors = input (words16 a.depths.now) (words16 a.errors.now) false [] [] bases errors
+input_in a (Some b) bases errors = input (words16 a.depths.now) (words16 a.errors.now) true (words16 b.depths.now) (words16 b.errors.now) bases errors
+
+-- A record of some kind and so many positions: where its gate or its metrics refuse, the refusal, the gate's first.
+abbrev pub measured_report : Kind → ℕ → Bool → Result MetricsBits Refusal → Result Report Refusal
+measured_report kind n kept (Err refusal) = Err refusal
+measured_report kind n kept (Ok metrics) = Ok (record { kind = kind; positions = n; kept = kept; metrics = metrics })
+
+abbrev pub gated_report : Kind → ℕ → Result Bool Refusal → Result MetricsBits Refusal → Result Report Refusal
+gated_report kind n (Err refusal) metrics = Err refusal
+gated_report kind n (Ok kept) metrics = measured_report kind n kept metrics
 
 -- The gate's depths are uncapped.
-unfoldable pub judged : Kind → ℕ → Input → List ℕ → Report
+abbrev pub judged : Kind → ℕ → Input → List ℕ → Result Report Refusal
 judged kind n x thresholds = gated_report kind n (consensus_gate n x.a x.b thresholds) (metrics_words (metrics_of x))
 
 -- The first n of each array.
@@ -49,14 +59,19 @@ abbrev pub front_input : ℕ → Input → Input
 front_input n x = input (take n x.a) (take n x.a_errors) x.second (take n x.b) (take n x.b_errors) (take n x.bases) (take n x.errors)
 
 -- A record of n positions, given what there is of its arrays and of its own strands: gate and metrics go over them as far as the record does.
-unfoldable pub record_report : Kind → ℕ → Input → List ℕ → Report
+abbrev pub record_report : Kind → ℕ → Input → List ℕ → Result Report Refusal
 record_report kind n x thresholds = judged kind n (front_input n x) thresholds
+
+-- That there is a record.
+abbrev pub some_report : Result Report Refusal → Result (Option Report) Refusal
+some_report (Err refusal) = Err refusal
+some_report (Ok report) = Ok (Some report)
 
 -- An answer, given the strands, the thresholds, and the bases and errors that a record was written to. A record's own strands are
 -- both, or the one that it is made of: B alone is the first.
-unfoldable pub reported : DuplexConsensus → Strands → List ℕ → List ℕ → List ℕ → Report
-reported (Refused number) s thresholds bases errors = Refused-report number
-reported NoRecord s thresholds bases errors = No-report
-reported (Ab n) s thresholds bases errors = record_report Ab-kind n (input s.a.depths s.a.errors false [] [] bases errors) thresholds
-reported (Ba n) s thresholds bases errors = record_report Ba-kind n (input s.b.depths s.b.errors false [] [] bases errors) thresholds
-reported (Both n) s thresholds bases errors = record_report Both-kind n (input s.a.depths s.a.errors true s.b.depths s.b.errors bases errors) thresholds
+abbrev pub reported : Result (Option DuplexConsensus) Refusal → Strands → List ℕ → List ℕ → List ℕ → Result (Option Report) Refusal
+reported (Err refusal) s thresholds bases errors = Err refusal
+reported (Ok None) s thresholds bases errors = Ok None
+reported (Ok (Some (Ab n))) s thresholds bases errors = some_report (record_report Ab-kind n (input s.a.depths s.a.errors false [] [] bases errors) thresholds)
+reported (Ok (Some (Ba n))) s thresholds bases errors = some_report (record_report Ba-kind n (input s.b.depths s.b.errors false [] [] bases errors) thresholds)
+reported (Ok (Some (Both n))) s thresholds bases errors = some_report (record_report Both-kind n (input s.a.depths s.a.errors true s.b.depths s.b.errors bases errors) thresholds)

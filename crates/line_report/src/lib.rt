@@ -1,56 +1,43 @@
 // What is reported of an answer beside its positions: its kind, its gate and its metrics, which are asked here on the record's own
-// strands. Uses lists, byte_numbers, duplex_kind, duplex_reads, duplex_gate, metrics_bits and line_format.
+// strands. Uses lists, refusals, byte_numbers, duplex_kind,
+// duplex_gate, duplex_metrics, metrics_bits and line_format.
 #![tactic(auto)]
 
 ghost use Rattle.std.specs.Prelude.{◌≡◌, take};
-ghost use Rattle.byte_numbers.specs.Bytes.{words16};
-ghost use Rattle.duplex_metrics.specs.Metrics.{input};
+ghost use Rattle.duplex_metrics.specs.Metrics.{input_of, depths_in};
 ghost use Rattle.line_report.specs.Counted.{Counted};
-ghost use Rattle.line_report.specs.Report.{counts, strands, measured_report, gated_report, judged, record_report, reported};
+ghost use Rattle.line_report.specs.Report.{strands_in, input_in, judged, record_report, reported};
 
-use byte_numbers::read_u16s;
 use duplex_gate::duplex_consensus_has_minimum_reads;
 use duplex_kind::DuplexConsensus;
-use duplex_reads::Gate;
+use duplex_metrics::Counts;
 use line_format::Kind;
-use lists::{front_u8, front_u16, smaller};
-use metrics_bits::{MetricsBits, MetricsWords, metrics_bits};
+use lists::front;
+use metrics_bits::{MetricsBits, metrics_bits};
+use refusals::Refusal;
 
+// What a record is made of, how many positions it has, whether the gate keeps it, and its metrics.
 #[derive(Clone, Copy)]
-pub enum Report {
-    // By the library's call, by the gate or by the metrics.
-    Refused(u8),
-    NoRecord,
-    // A record: what it is made of, how many positions it has, whether the gate keeps it, and its metrics.
-    Of {
-        kind: Kind,
-        positions: usize,
-        kept: bool,
-        metrics: MetricsBits,
-    },
+pub struct Report {
+    pub kind: Kind,
+    pub positions: usize,
+    pub kept: bool,
+    pub metrics: MetricsBits,
 }
 
-fn measured(kind: Kind, positions: usize, kept: bool, metrics: MetricsWords) -> Report
-    ensures { result ≡ measured_report kind positions kept metrics }
-{
-    match metrics {
-        MetricsWords::Refused(number) => Report::Refused(number),
-        MetricsWords::Of(words) => Report::Of {
-            kind,
-            positions,
-            kept,
-            metrics: words,
-        },
-    }
+// The depths and errors of a strand as bytes, two a position.
+#[derive(Clone, Copy)]
+pub struct CountBytes<'a> {
+    pub depths: &'a [u8],
+    pub errors: &'a [u8],
 }
 
-fn gated(kind: Kind, positions: usize, gate: Gate, metrics: MetricsWords) -> Report
-    ensures { result ≡ gated_report kind positions gate metrics }
+fn depths_of<'a>(other: Option<Counts<'a>>) -> &'a [u16]
+    ensures { result.now ≡ depths_in other.entry }
 {
-    match gate {
-        Gate::Refused(number) => Report::Refused(number),
-        Gate::Kept => measured(kind, positions, true, metrics),
-        Gate::Below => measured(kind, positions, false, metrics),
+    match other {
+        Some(other) => other.depths,
+        None => &[],
     }
 }
 
@@ -58,38 +45,30 @@ fn gated(kind: Kind, positions: usize, gate: Gate, metrics: MetricsWords) -> Rep
 fn judge(
     kind: Kind,
     n: usize,
-    second: bool,
-    first_depths: &[u16],
-    first_errors: &[u16],
-    other_depths: &[u16],
-    other_errors: &[u16],
+    first: Counts,
+    other: Option<Counts>,
     min_reads: &[u32],
     bases: &[u8],
     errors: &[u16],
-) -> Report
-    ensures { result ≡ judged kind n (input first_depths.now first_errors.now second other_depths.now other_errors.now (take n bases.now) (take n errors.now)) min_reads.now }
+) -> Result<Report, Refusal>
+    ensures { result ≡ judged kind n (input_of first.entry other.entry (take n bases.now) (take n errors.now)) min_reads.now }
 {
-    let bases = front_u8(bases, n);
-    let errors = front_u16(errors, n);
-    let gate = duplex_consensus_has_minimum_reads(n, first_depths, other_depths, min_reads);
-    let metrics = metrics_bits(
-        first_depths,
-        first_errors,
-        second,
-        other_depths,
-        other_errors,
-        bases,
-        errors,
-    );
-    gated(kind, n, gate, metrics)
+    let kept = duplex_consensus_has_minimum_reads(n, first.depths, depths_of(other), min_reads)?;
+    let metrics = metrics_bits(first, other, front(bases, n), front(errors, n))?;
+    Ok(Report {
+        kind,
+        positions: n,
+        kept,
+        metrics,
+    })
 }
 
 // Reads as many numbers as out has room for, and answers how many of the first n these are.
 fn read_front(n: usize, bytes: &[u8], out: &mut [u16]) -> usize
     ensures { Counted n bytes.now out.old out.new result }
 {
-    read_u16s(bytes, out);
-    smaller(n, smaller(out.len(), bytes.len() / 2))
+    byte_numbers::read(bytes, out);
+    n.min(out.len().min(bytes.len() / 2))
 }
 
 // A record of n positions, given its own strands: no more than 1,024 numbers of each are looked at, since a record of more positions
@@ -97,91 +76,58 @@ fn read_front(n: usize, bytes: &[u8], out: &mut [u16]) -> usize
 fn own_report(
     kind: Kind,
     n: usize,
-    second: bool,
-    first_depths: &[u8],
-    first_errors: &[u8],
-    other_depths: &[u8],
-    other_errors: &[u8],
+    first: CountBytes,
+    other: Option<CountBytes>,
     min_reads: &[u32],
     bases: &[u8],
     errors: &[u16],
-) -> Report
-    ensures { result ≡ record_report kind n (input (words16 first_depths.now) (words16 first_errors.now) second (words16 other_depths.now) (words16 other_errors.now) bases.now errors.now) min_reads.now }
+) -> Result<Report, Refusal>
+    ensures { result ≡ record_report kind n (input_in first.entry other.entry bases.now errors.now) min_reads.now }
 {
+    // No heap: arrays of the most that is looked at.
     let mut a = [0; 1024];
     let mut a_wrong = [0; 1024];
+    let a_count = read_front(n, first.depths, &mut a);
+    let a_wrong_count = read_front(n, first.errors, &mut a_wrong);
+    let own = Counts {
+        depths: &a[0..a_count],
+        errors: &a_wrong[0..a_wrong_count],
+    };
+    let Some(other) = other else {
+        return judge(kind, n, own, None, min_reads, bases, errors);
+    };
     let mut b = [0; 1024];
     let mut b_wrong = [0; 1024];
-    let a_count = read_front(n, first_depths, &mut a);
-    let a_wrong_count = read_front(n, first_errors, &mut a_wrong);
-    let b_count = read_front(n, other_depths, &mut b);
-    let b_wrong_count = read_front(n, other_errors, &mut b_wrong);
-    judge(
-        kind,
-        n,
-        second,
-        &a[0..a_count],
-        &a_wrong[0..a_wrong_count],
-        &b[0..b_count],
-        &b_wrong[0..b_wrong_count],
-        min_reads,
-        bases,
-        errors,
-    )
+    let b_count = read_front(n, other.depths, &mut b);
+    let b_wrong_count = read_front(n, other.errors, &mut b_wrong);
+    let others = Counts {
+        depths: &b[0..b_count],
+        errors: &b_wrong[0..b_wrong_count],
+    };
+    judge(kind, n, own, Some(others), min_reads, bases, errors)
 }
 
-// What is reported of an answer, from the depths and errors of the strands as bytes, the thresholds, and the bases and errors that a
-// record was written to.
+// The report of an answer of the library, given the strands, the thresholds, and the bases and errors that a record was written to.
+// Refuses as the library did, then as the gate and the metrics do.
 pub fn record_report(
-    made: DuplexConsensus,
-    a_depths: &[u8],
-    a_errors: &[u8],
-    b_depths: &[u8],
-    b_errors: &[u8],
+    made: Result<Option<DuplexConsensus>, Refusal>,
+    a: CountBytes,
+    b: CountBytes,
     min_reads: &[u32],
     bases: &[u8],
     errors: &[u16],
-) -> Report
-    ensures { result ≡ reported made (strands (counts (words16 a_depths.now) (words16 a_errors.now)) (counts (words16 b_depths.now) (words16 b_errors.now))) min_reads.now bases.now errors.now }
+) -> Result<Option<Report>, Refusal>
+    ensures { result ≡ reported made (strands_in a.entry b.entry) min_reads.now bases.now errors.now }
 {
-    match made {
-        DuplexConsensus::Refused(number) => Report::Refused(number),
-        DuplexConsensus::NoRecord => Report::NoRecord,
-        DuplexConsensus::Ab(n) => own_report(
-            Kind::Ab,
-            n,
-            false,
-            a_depths,
-            a_errors,
-            b"",
-            b"",
-            min_reads,
-            bases,
-            errors,
-        ),
-        DuplexConsensus::Ba(n) => own_report(
-            Kind::Ba,
-            n,
-            false,
-            b_depths,
-            b_errors,
-            b"",
-            b"",
-            min_reads,
-            bases,
-            errors,
-        ),
-        DuplexConsensus::Both(n) => own_report(
-            Kind::Both,
-            n,
-            true,
-            a_depths,
-            a_errors,
-            b_depths,
-            b_errors,
-            min_reads,
-            bases,
-            errors,
-        ),
-    }
+    let Some(made) = made? else {
+        return Ok(None);
+    };
+    let report = match made {
+        DuplexConsensus::Ab(n) => own_report(Kind::Ab, n, a, None, min_reads, bases, errors),
+        DuplexConsensus::Ba(n) => own_report(Kind::Ba, n, b, None, min_reads, bases, errors),
+        DuplexConsensus::Both(n) => {
+            own_report(Kind::Both, n, a, Some(b), min_reads, bases, errors)
+        }
+    };
+    Ok(Some(report?))
 }

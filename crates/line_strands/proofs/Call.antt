@@ -7,6 +7,8 @@ use native.Mathlib.Omega.{arith}
 use lib.ListN.{length}
 use Rattle.molecule_strand.specs.Strand.{StrandBytes}
 use Rattle.duplex_outputs.specs.Outputs.{RecordArrays, record_of}
+use Rattle.std.proofs.Common.{Option, Result}
+use Rattle.refusals.specs.declared.Refusal.{Refusal}
 use Rattle.duplex_kind.specs.declared.DuplexConsensus.{DuplexConsensus}
 use Rattle.molecule_consensus.specs.Bytes.{seen, BytesAs}
 use Rattle.molecule_consensus.proofs.Ample.{Ample, zeros_ample, inputs_alone}
@@ -21,10 +23,9 @@ abbrev pub buffers : RecordArrays
 buffers = record_of zeros zeros zeros zeros zeros zeros zeros zeros zeros
 
 ample : Ample buffers
-unfolding zeros
 ample = zeros_ample
 
-module _ (ts : List ℕ) (a b : StrandBytes) (listed : Bool) (run : List ℕ) {now : RecordArrays} {made : DuplexConsensus} (e : BytesAs (seen a) (seen b) listed run buffers now made) where
+module _ (ts : List ℕ) (a b : StrandBytes) (listed : Bool) (run : List ℕ) {now : RecordArrays} {made : Result (Option DuplexConsensus) Refusal} (e : BytesAs (seen a) (seen b) listed run buffers now made) where
   abbrev found : List ℕ
   found = answer_text made (strands (counts_of a) (counts_of b)) ts (columns now.bases now.quals now.errors)
 

@@ -1,27 +1,27 @@
 -- The text for two strands given as bytes and a list of reads that is a run, document 01's line program: what the library's call on
 -- them answers, and leaves in output buffers of 1,024 places that start as zeros.
-use Rattle.std.specs.Prelude.{ℕ, Bool, List, replicate}
-use Rattle.lists.specs.Output.{answer, after}
+use Rattle.std.specs.Prelude.{ℕ, Bool, Option, Result, List, replicate}
+use Rattle.refusals.specs.declared.Refusal.{Refusal}
+use Rattle.refusals.specs.Outcome.{answer, after}
 use Rattle.byte_numbers.specs.Bytes.{words16}
 use Rattle.molecule_strand.specs.Strand.{StrandBytes, strand_of}
 use Rattle.duplex_outputs.specs.Outputs.{RecordArrays}
 use Rattle.duplex_kind.specs.Kind.{kind_of}
 use Rattle.duplex_kind.specs.declared.DuplexConsensus.{DuplexConsensus}
-use Rattle.duplex_kind.specs.declared.DuplexConsensus.TheVariants.{Refused}
 use Rattle.molecule_consensus.specs.Bytes.{seen, inputs_refused, bytes_record}
 use Rattle.line_format.specs.Line.{columns}
 use Rattle.line_report.specs.Report.{Counts, counts, strands}
 use Rattle.line_record.specs.Line.{answer_text}
 
-unfoldable pub zeros : List ℕ
+abbrev pub zeros : List ℕ
 zeros = replicate 1024 0
 
--- The number that refuses the call, 0 for none. The outputs are long enough for every record.
-abbrev pub number_of : StrandBytes → StrandBytes → Bool → List ℕ → ℕ
-number_of a b listed run = inputs_refused (seen a) (seen b) listed run
+-- The refusal of the call, if any. The outputs are long enough for every record.
+abbrev pub refusal_of : StrandBytes → StrandBytes → Bool → List ℕ → Option Refusal
+refusal_of a b listed run = inputs_refused (seen a) (seen b) listed run
 
-abbrev pub answer_of : StrandBytes → StrandBytes → Bool → List ℕ → DuplexConsensus
-answer_of a b listed run = answer Refused (number_of a b listed run) (kind_of (strand_of (seen a)) (strand_of (seen b)))
+abbrev pub answer_of : StrandBytes → StrandBytes → Bool → List ℕ → Result (Option DuplexConsensus) Refusal
+answer_of a b listed run = answer (refusal_of a b listed run) (kind_of (strand_of (seen a)) (strand_of (seen b)))
 
 abbrev pub record_in : StrandBytes → StrandBytes → Bool → List ℕ → RecordArrays
 record_in a b listed run = bytes_record (seen a) (seen b) listed run
@@ -34,6 +34,6 @@ unfoldable pub strands_text : List ℕ → StrandBytes → StrandBytes → Bool 
 strands_text thresholds a b listed run =
     answer_text (answer_of a b listed run) (strands (counts_of a) (counts_of b)) thresholds
     (columns
-    (after (number_of a b listed run) (record_in a b listed run).bases zeros)
-    (after (number_of a b listed run) (record_in a b listed run).quals zeros)
-    (after (number_of a b listed run) (record_in a b listed run).errors zeros))
+    (after (refusal_of a b listed run) (record_in a b listed run).bases zeros)
+    (after (refusal_of a b listed run) (record_in a b listed run).quals zeros)
+    (after (refusal_of a b listed run) (record_in a b listed run).errors zeros))

@@ -1,41 +1,46 @@
-// The text that duplexline prints for two strands given as bytes, once the thresholds are known to be valid. Uses methylation,
-// duplex_kind, molecule_consensus and line_record.
+// The text that duplexline prints for two strands given as bytes, once the thresholds are known to be valid. Uses lists, molecule_strand,
+// molecule_consensus, line_format, line_record and line_report.
 #![tactic(auto)]
 
+ghost use Rattle.std.specs.Prelude.{◌≡◌, is_some};
 ghost use Rattle.line_record.specs.Line.{Holds};
-ghost use Rattle.molecule_strand.specs.Strand.{strand_bytes};
-ghost use Rattle.line_strands.specs.Strands.{strands_text};
+ghost use Rattle.line_report.specs.Report.{counts_in};
+ghost use Rattle.molecule_errors.specs.Run.{run_in};
+ghost use Rattle.molecule_strand.specs.Strand.{encoded_in};
+ghost use Rattle.line_strands.specs.Strands.{counts_of, strands_text};
 
+use line_format::RecordColumns;
 use line_record::{Line, record_line};
-use methylation::Annotation;
+use line_report::CountBytes;
 use molecule_consensus::duplex_consensus_of_bytes;
+use molecule_strand::EncodedStrand;
+
+// The depths and errors of a strand; an absent one has none.
+fn count_bytes<'a>(s: Option<EncodedStrand<'a>>) -> CountBytes<'a>
+    ensures { counts_in result ≡ counts_of (encoded_in s.entry) }
+{
+    match s {
+        Some(s) => CountBytes {
+            depths: s.depths,
+            errors: s.errors,
+        },
+        None => CountBytes {
+            depths: &[],
+            errors: &[],
+        },
+    }
+}
 
 // The record of two strands, of one or of none, and its line.
 pub fn strands_line(
-    a_present: bool,
-    a_annotation: Annotation,
-    a_bases: &[u8],
-    a_quals: &[u8],
-    a_depths: &[u8],
-    a_errors: &[u8],
-    a_evidence: &[u8],
-    b_present: bool,
-    b_annotation: Annotation,
-    b_bases: &[u8],
-    b_quals: &[u8],
-    b_depths: &[u8],
-    b_errors: &[u8],
-    b_evidence: &[u8],
-    listed: bool,
-    run: &[u8],
+    a: Option<EncodedStrand>,
+    b: Option<EncodedStrand>,
+    run: Option<&[u8]>,
     min_reads: &[u32],
 ) -> Line
-    ensures { Holds
-        (strands_text min_reads.now
-        (strand_bytes a_present a_annotation a_bases.now a_quals.now a_depths.now a_errors.now a_evidence.now)
-        (strand_bytes b_present b_annotation b_bases.now b_quals.now b_depths.now b_errors.now b_evidence.now)
-        listed run.now) result }
+    ensures { Holds (strands_text min_reads.now (encoded_in a.entry) (encoded_in b.entry) (is_some run.entry) (run_in run.entry)) result }
 {
+    // No heap: arrays of the most that is looked at.
     let mut bases = [0; 1024];
     let mut quals = [0; 1024];
     let mut errors = [0; 1024];
@@ -46,21 +51,8 @@ pub fn strands_line(
     let mut b_unconverted = [0; 1024];
     let mut b_converted = [0; 1024];
     let made = duplex_consensus_of_bytes(
-        a_present,
-        a_annotation,
-        a_bases,
-        a_quals,
-        a_depths,
-        a_errors,
-        a_evidence,
-        b_present,
-        b_annotation,
-        b_bases,
-        b_quals,
-        b_depths,
-        b_errors,
-        b_evidence,
-        listed,
+        a,
+        b,
         run,
         &mut bases,
         &mut quals,
@@ -72,7 +64,10 @@ pub fn strands_line(
         &mut b_unconverted,
         &mut b_converted,
     );
-    record_line(
-        made, a_depths, a_errors, b_depths, b_errors, min_reads, &bases, &quals, &errors,
-    )
+    let row = RecordColumns {
+        bases: &bases,
+        quals: &quals,
+        errors: &errors,
+    };
+    record_line(made, count_bytes(a), count_bytes(b), min_reads, row)
 }

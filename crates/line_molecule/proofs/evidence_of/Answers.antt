@@ -3,4 +3,4 @@ use Rattle.line_molecule.proofs.Parts.{behind_first}
 use Rattle.line_molecule.proofs.evidence_of.Goals as goal
 
 pub returns : goal.returns
-returns c = behind_first c.args.value.now c.smaller-from.ensures
+returns c = behind_first c.args.value.now c.min-from.ensures

@@ -1,13 +1,21 @@
 -- `line_molecule::molecule_line` meets its contract: by what its thresholds are. Assumes nothing.
+use mathlib.Core.Path.{◌≡◌}
+use Rattle.std.proofs.Common.{rules}
+use Rattle.molecule_encoding.specs.Parts.{value_in}
+use Rattle.line_molecule.specs.Line.{value_or, parts_of}
+use Rattle.line_molecule.proofs.Parts.{read_is}
 use Rattle.line_molecule.proofs.Thresholds.{slice_read, text_refused, text_passed}
 use Rattle.line_molecule.proofs.molecule_line.Goals as goal
 
-pub returns-in_default : goal.returns-in_default
-returns-in_default c =
-    let a = c.args in
-    text_refused a.bytes.now a.m c.value-values.ensures (slice_read _ c.read_u32s.ensures c.smaller-count.ensures) c.validate_min_reads-answer.ensures c.in_default.is c.number_in.ensures c.refused_line.ensures
+pub returns-in-Ok : goal.returns-in-Ok
+returns-in-Ok c =
+    let m = c.args.m in
+    let v : c.unwrap_or-values.result.now ≡ value_or (value_in m.thresholds) = search rules in
+    text_passed (parts_of m) v (slice_read c.unwrap_or-values.result.now c.read.ensures c.min-count.ensures) c.validate_min_reads.ensures c.in-Ok.is
+    (read_is _ m c.strand_of.ensures c.strand_of-in-Ok.ensures c.strands_line.ensures)
 
-pub returns : goal.returns
-returns c =
-    let a = c.args in
-    text_passed a.bytes.now a.m c.value-values.ensures (slice_read _ c.read_u32s.ensures c.smaller-count.ensures) c.validate_min_reads-answer.ensures c.in-Thresholds.is c.read_line.ensures
+pub returns-in-Err : goal.returns-in-Err
+returns-in-Err c =
+    let m = c.args.m in
+    let v : c.unwrap_or-values.result.now ≡ value_or (value_in m.thresholds) = search rules in
+    text_refused (parts_of m) v (slice_read c.unwrap_or-values.result.now c.read.ensures c.min-count.ensures) c.validate_min_reads.ensures c.in-Err.is c.refused_line.ensures

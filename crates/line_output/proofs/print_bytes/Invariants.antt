@@ -1,11 +1,7 @@
 -- What the loop keeps.
-use Prim.Native.Nat.{◌-◌}
 use Rattle.lists.proofs.Output.{Copying}
 use Rattle.line_output.specs.Text.{printed}
 use Rattle.line_output.proofs.print_bytes.Given as goal
 
 abbrev pub invariant-loop-i : goal.invariant-loop-i
 invariant-loop-i l = Copying l.n (printed l.bytes) l.initial.out l.i l.out
-
-abbrev pub decreases-loop-i : goal.decreases-loop-i
-decreases-loop-i l = l.n - l.i

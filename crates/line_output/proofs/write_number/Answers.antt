@@ -5,4 +5,4 @@ use Rattle.line_output.proofs.write_number.Goals as goal
 pub returns : goal.returns
 returns c =
     let a = c.args in
-    placed a.at c.smaller-from.ensures (sized a.out.now c.smaller-from.result c.write_decimal.ensures.value c.write_decimal.ensures.out_after c.smaller.ensures)
+    placed a.at c.min-from.ensures (sized a.out.now c.min-from.result c.write_decimal.ensures.value c.write_decimal.ensures.out_after c.min.ensures)

@@ -3,4 +3,4 @@ use Rattle.line_output.proofs.Text.{placed}
 use Rattle.line_output.proofs.write_printed.Goals as goal
 
 pub returns : goal.returns
-returns c = placed c.args.at c.smaller-from.ensures c.print_bytes.ensures
+returns c = placed c.args.at c.min-from.ensures c.print_bytes.ensures

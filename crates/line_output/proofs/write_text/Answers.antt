@@ -6,4 +6,4 @@ use Rattle.line_output.proofs.write_text.Goals as goal
 pub returns : goal.returns
 returns c =
     let a = c.args in
-    placed a.at c.smaller-from.ensures (sized a.out.now c.smaller-from.result refl c.copy_u8.ensures c.smaller.ensures)
+    placed a.at c.min-from.ensures (sized a.out.now c.min-from.result refl c.copy.ensures c.min.ensures)

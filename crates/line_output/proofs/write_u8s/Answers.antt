@@ -1,21 +1,12 @@
 -- `line_output::write_u8s` meets its contract: after i turns i of the numbers are written. Assumes nothing.
 use native.Mathlib.Omega.{arith}
-use Rattle.line_output.proofs.Text.{begin, turn, done, same_size}
+use Rattle.line_output.proofs.Text.{begin, turn}
 use Rattle.line_output.proofs.write_u8s.Goals as goal
 
 pub loop-i-init : goal.loop-i-init
-loop-i-init c = begin 4 _ _ _ c.smaller-end.ensures
+loop-i-init c = begin 4 _ _ _ c.min-end.ensures
 
 pub loop-i-preserved : goal.loop-i-preserved
 loop-i-preserved c =
     let small = c.type_inv.numbers c.loop-i.i in
     turn 2 c.loop-i.invariant c.loop-i-test.true c.write_item-end.ensures (omega arith)
-
-pub shape_of-out : goal.shape_of-out
-shape_of-out c = same_size c.loop-i.invariant.written.written
-
-pub returns-clause-appended : goal.returns-clause-appended
-returns-clause-appended c = (done c.loop-i.invariant c.loop-i-test.false).0
-
-pub returns-clause-numbers_len_bound : goal.returns-clause-numbers_len_bound
-returns-clause-numbers_len_bound c = (done c.loop-i.invariant c.loop-i-test.false).1

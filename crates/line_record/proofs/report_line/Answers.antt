@@ -1,16 +1,7 @@
--- `line_record::report_line` meets its contract: by what is reported. Assumes nothing.
-use Rattle.line_record.specs.Line.{report_text}
-use Rattle.line_record.proofs.Holds.{of_any, by_report}
+-- `line_record::report_line` meets its contract: that there is no record is said whatever the arrays are. Assumes nothing.
+use Rattle.line_format.specs.Line.{columns_in}
+use Rattle.line_record.proofs.Holds.{of_any}
 use Rattle.line_record.proofs.report_line.Goals as goal
 
-pub returns-in-Refused : goal.returns-in-Refused
-unfolding report_text
-returns-in-Refused c = by_report _ _ c.in-Refused.is (of_any _ c.refused_line.ensures)
-
-pub returns-in-NoRecord : goal.returns-in-NoRecord
-unfolding report_text
-returns-in-NoRecord c = by_report _ _ c.in-NoRecord.is (of_any _ c.none_line.ensures)
-
-pub returns-in-Of : goal.returns-in-Of
-unfolding report_text
-returns-in-Of c = by_report _ _ c.in-Of.is c.text_line.ensures
+pub returns-in-None : goal.returns-in-None
+returns-in-None c = rw (c.in-Ok.is, c.in-None.is) (of_any (columns_in c.args.row) c.none_line.ensures)

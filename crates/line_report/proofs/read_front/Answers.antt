@@ -5,9 +5,9 @@ use Rattle.line_report.proofs.read_front.Goals as goal
 pub returns : goal.returns
 returns c =
     let a = c.args in
-    counted a.n a.bytes.now a.out.now c.read_u16s.ensures c.smaller.ensures c.smaller-2.ensures
+    counted a.n a.bytes.now a.out.now c.read.ensures c.min.ensures c.min-2.ensures
 
 pub shape_of-out : goal.shape_of-out
 shape_of-out c =
     let a = c.args in
-    same a.n a.bytes.now a.out.now c.read_u16s.ensures c.smaller.ensures c.smaller-2.ensures
+    same a.n a.bytes.now a.out.now c.read.ensures c.min.ensures c.min-2.ensures
