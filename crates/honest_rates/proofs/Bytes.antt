@@ -1,18 +1,19 @@
 -- A number that a call wrote to its output, read back: `word_at`. Assumes nothing.
 use mathlib.Core.Path.{◌≡◌, ap, ◌∙◌}
 use mathlib.Core.List.{List, ◌++◌}
-use Prim.Native.Nat.{ℕ, ◌+◌, ◌*◌, ◌^◌, ◌<◌}
+use Prim.Native.Nat.{ℕ, ◌*◌, ◌^◌, ◌<◌}
 use native.Mathlib.Omega.{arith}
 use lib.ListN.{length, take, drop, get_or, length-drop}
 use lib.Seq.{take-append-le, drop-append-le}
 use Rattle.lists.specs.Output.{put}
-use Rattle.byte_numbers.specs.Bytes.{number_of, bytes_of, bytes_of_all, bytes32}
+use Rattle.byte_numbers.specs.Bytes.{number_of, bytes_of, all_bytes, bytes32}
 use Rattle.byte_numbers.specs.Groups.{group, joined}
-use Rattle.byte_numbers.proofs.Bytes.{length_bytes, number_of_bytes}
+use Rattle.byte_numbers.specs.Lengths.{length_bytes}
+use Rattle.byte_numbers.proofs.Bytes.{number_of_bytes}
 use Rattle.byte_numbers.proofs.Groups.{length_joined, group_joined}
 
 pub word_at : (words out : List ℕ) (i : ℕ) → i < length words → get_or words i 0 < 2 ^ 32 → number_of (take 4 (drop (4 * i) (put (bytes32 words) out))) ≡ get_or words i 0
-unfolding put bytes_of_all group
+unfolding put all_bytes group
 word_at words out i h small =
     let f : ℕ → List ℕ = λ i. bytes_of 4 (get_or words i 0) in
     let all = joined (length words) f in

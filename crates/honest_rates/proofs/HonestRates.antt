@@ -3,34 +3,36 @@
 use mathlib.Core.Path.{◌≡◌, refl, sym, ap, ap₂, subst, ◌∙◌}
 use mathlib.Core.Bool.{Bool, true, false, cond}
 use mathlib.Core.List.{List, []}
-use Prim.Native.Nat.{ℕ, zero, suc, ◌*◌, ◌^◌, ◌≤◌, ◌<◌}
+use Prim.Native.Nat.{ℕ, ◌*◌, ◌^◌, ◌≤◌, ◌<◌}
 use native.Mathlib.Omega.{arith}
+use borrow.Author.Tests.{eqb-false}
 use lib.Dec.{T, eqb}
 use lib.ListN.{length, take, drop}
 use lib.Ieee.{binary32, fin, fits, of_int, div, to_bits}
 use lib.Ieee.Fits.{cond-fits, div-fits}
 use lib.Ieee.Bits.{to_bits-lt}
 use lib.IntN.{pos}
-use Rattle.lists.specs.Output.{put, unless, answer}
+use Rattle.std.proofs.Common.{Option, Some, None, Result, Ok, Err}
+use Rattle.lists.specs.Output.{put}
 use Rattle.lists.specs.Part.{only_if}
-use Rattle.lists.proofs.Output.{answer_passed, written, front_of}
+use Rattle.lists.proofs.Output.{front_of}
+use Rattle.refusals.specs.declared.Refusal.{Refusal}
+use Rattle.refusals.specs.Refusal.{number_of as row_number, number_or_0}
+use Rattle.refusals.specs.Outcome.{answer, after as left_after}
+use Rattle.refusals.proofs.InOrder.{numbered_from_1}
 use Rattle.rates.specs.Rate as rate
 use Rattle.rates.specs.Rate.{rate_of, bits_of, gap}
 use Rattle.rates.proofs.Rates.{close, exact}
-use Rattle.caller.specs.Short.{short}
 use Rattle.hexadecimal.specs.Hexadecimal.{value_of}
 use Rattle.hexadecimal.proofs.Hexadecimal.{read_back}
 use Rattle.byte_numbers.specs.Bytes.{number_of, words16, bytes32}
 use Rattle.duplex_metrics.specs.Metrics as metrics
-use Rattle.duplex_metrics.specs.Metrics.{Input, input, metrics_of, metrics_refused, metrics_record, figures_a, figures_b, figures_c, no_calls, lengths}
-use Rattle.duplex_metrics.specs.declared.Metrics.{Metrics}
-use Rattle.duplex_metrics.specs.declared.Metrics.TheVariants.{Refused, Of}
+use Rattle.duplex_metrics.specs.Metrics.{Input, input, metrics_of, record_of}
 use Rattle.duplex_metrics.specs.declared.MetricsRecord.{MetricsRecord}
 use Rattle.duplex_metrics.proofs.Returned.{record_is}
 use Rattle.metrics_bits.specs.Bits.{in_bits, metrics_words}
 use Rattle.metrics_bits.specs.declared.MetricsBits.{MetricsBits}
-use Rattle.metrics_bits.specs.declared.MetricsWords.TheVariants.{Of as Of-bits}
-use Rattle.c_metrics.specs.Bytes.{MetricsEntry, seen, decoded, odd_counts, record_words, metrics_bytes}
+use Rattle.c_metrics.specs.Bytes.{MetricsEntry, seen, decoded, entry_refused, record_words, metrics_bytes}
 use Rattle.c_metrics.proofs.Bytes.{clear}
 use Rattle.replies.specs.Choices.{yes}
 use Rattle.rust_metrics.specs.Answers.{metrics_reply}
@@ -68,8 +70,8 @@ in_float r aE = to_bits binary32 r.aE
 in_float r bE = to_bits binary32 r.bE
 in_float r cE = to_bits binary32 r.cE
 
-float_bits : (x : Input) (r : MetricsRecord) → metrics_of x ≡ Of r → (p : Rate) → in_float r p ≡ behind (from_numbers x) p
-unfolding metrics_record metrics.strand_figures metrics.record_figures metrics.record_depths metrics.record_depth metrics.capped short only_if
+float_bits : (x : Input) (r : MetricsRecord) → metrics_of x ≡ Ok r → (p : Rate) → in_float r p ≡ behind (from_numbers x) p
+unfolding metrics.strand_figures metrics.record_figures metrics.record_depths metrics.record_depth metrics.capped only_if
 float_bits x r e aE = ap (λ (s : MetricsRecord). to_bits binary32 s.aE) (record_is x r e)
 float_bits x r e bE = ap (λ (s : MetricsRecord). to_bits binary32 s.bE) (record_is x r e)
 float_bits x r e cE = ap (λ (s : MetricsRecord). to_bits binary32 s.cE) (record_is x r e)
@@ -80,20 +82,17 @@ in_word r bE = r.bE
 in_word r cE = r.cE
 
 float_word : (r : MetricsRecord) (p : Rate) → in_word (in_bits r) p ≡ in_float r p
-unfolding in_bits
 float_word r aE = refl
 float_word r bE = refl
 float_word r cE = refl
 
-module _ (x : Input) (m : MetricsBits) (e : metrics_words (metrics_of x) ≡ Of-bits m) where
+module _ (x : Input) (m : MetricsBits) (e : metrics_words (metrics_of x) ≡ Ok m) where
   word_bits : (p : Rate) → in_word m p ≡ behind (from_numbers x) p
   word_bits p = go (metrics_of x) refl e
     where
-      go : (given : Metrics) → metrics_of x ≡ given → metrics_words given ≡ Of-bits m → in_word m p ≡ behind (from_numbers x) p
-      go (Refused k) h f =
-          let no : ◌≡◌ {A = ℕ} 0 1 = cc in
-          absurd (omega arith)
-      go (Of r) h f =
+      go : (given : Result MetricsRecord Refusal) → metrics_of x ≡ given → metrics_words given ≡ Ok m → in_word m p ≡ behind (from_numbers x) p
+      go (Err k) h f = absurd cc
+      go (Ok r) h f =
           let same : m ≡ in_bits r = cc in
           ap (λ (n : MetricsBits). in_word n p) same ∙ float_word r p ∙ float_bits x r h p
 
@@ -107,21 +106,28 @@ in_place out aE = number_of (take 4 (drop 8 out))
 in_place out bE = number_of (take 4 (drop 20 out))
 in_place out cE = number_of (take 4 (drop 32 out))
 
+-- No refusal has the number 0.
+not_refused : (row : Option Refusal) → number_or_0 row ≡ 0 → row ≡ None
+not_refused None z = refl
+not_refused (Some row) z = absurd (eqb-false (row_number row) 0 (numbered_from_1 row) z)
+
 module _ (x : Input) (before after : List ℕ) (e : MetricsEntry (seen x) before after 0) where
   abbrev y : Input
   y = decoded (seen x)
 
   abbrev made : MetricsRecord
-  made = metrics_record (figures_a y) (figures_b y) (figures_c y) (no_calls y)
+  made = record_of y
 
-  is_record : metrics_of y ≡ Of made
-  unfolding metrics_of
-  is_record = sym (answer_passed Refused (Of made) (sym (clear (odd_counts (lengths (seen x))) (lengths y) (length before) refl (sym e.answered)).0) refl)
+  is_record : metrics_of y ≡ Ok made
+  is_record = ap (λ (row : Option Refusal). answer row (record_of y)) (clear (seen x) before (sym e.answered)).0
 
   output_is : after ≡ put (bytes32 (record_words (in_bits made))) before
-  output_is = written (metrics_bytes (metrics_words (metrics_of y))) before e.left (sym e.answered) ∙ ap (λ (m : Metrics). put (metrics_bytes (metrics_words m)) before) is_record
+  output_is =
+      e.left
+      ∙ ap (λ (row : Option Refusal). left_after row (metrics_bytes (metrics_words (metrics_of y))) before) (not_refused (entry_refused (seen x) before) (sym e.answered))
+      ∙ ap (λ (m : Result MetricsRecord Refusal). put (metrics_bytes (metrics_words m)) before) is_record
 
-  words_are : metrics_words (metrics_of y) ≡ Of-bits (in_bits made)
+  words_are : metrics_words (metrics_of y) ≡ Ok (in_bits made)
   words_are = ap metrics_words is_record
 
   place_word : (p : Rate) → in_place after p ≡ in_word (in_bits made) p
@@ -143,34 +149,23 @@ module _ (x : Input) (before after : List ℕ) (e : MetricsEntry (seen x) before
 
 -- ---- A reply
 
--- No refusal has the number 0.
-refused_number : (n k : ℕ) (r : MetricsRecord) → answer Refused n (Of r) ≡ Refused k → k ≡ 0 → ⊥
-unfolding answer unless
-refused_number zero k r e z =
-    let no : ◌≡◌ {A = ℕ} 0 1 = cc in
-    omega arith
-refused_number (suc n) k r e z =
-    let same : k ≡ suc n = cc in
-    omega arith
-
 abbrev replied : MetricsReply → Rate → ℕ
 replied r aE = r.aE
 replied r bE = r.bE
 replied r cE = r.cE
 
-replied_word : (m : MetricsBits) (p : Rate) → replied (metrics_reply (Of-bits m)) p ≡ in_word m p
+replied_word : (m : MetricsBits) (p : Rate) → replied (metrics_reply (Ok m)) p ≡ in_word m p
 replied_word m aE = refl
 replied_word m bE = refl
 replied_word m cE = refl
 
 module _ (x : Input) (r : MetricsReply) (e : r ≡ metrics_reply (metrics_words (metrics_of x))) (z : r.refused ≡ 0) where
   reply_bits : (p : Rate) → replied r p ≡ behind (from_numbers x) p
-  unfolding metrics_of
   reply_bits p = go (metrics_of x) refl e
     where
-      go : (given : Metrics) → metrics_of x ≡ given → r ≡ metrics_reply (metrics_words given) → replied r p ≡ behind (from_numbers x) p
-      go (Refused k) h f = absurd (refused_number (metrics_refused x) k _ h (sym (ap (λ (s : MetricsReply). s.refused) f) ∙ z))
-      go (Of s) h f = ap (λ (t : MetricsReply). replied t p) f ∙ replied_word (in_bits s) p ∙ word_bits x (in_bits s) (ap metrics_words h) p
+      go : (given : Result MetricsRecord Refusal) → metrics_of x ≡ given → r ≡ metrics_reply (metrics_words given) → replied r p ≡ behind (from_numbers x) p
+      go (Err k) h f = absurd (eqb-false (row_number k) 0 (numbered_from_1 k) (sym (ap (λ (s : MetricsReply). s.refused) f) ∙ z))
+      go (Ok s) h f = ap (λ (t : MetricsReply). replied t p) f ∙ replied_word (in_bits s) p ∙ word_bits x (in_bits s) (ap metrics_words h) p
 
 -- ---- The printed line
 

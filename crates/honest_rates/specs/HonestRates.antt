@@ -5,7 +5,7 @@
 -- capped at 32,767 at its position first; both sums are written out here, over what the call was given. Two fractions e/d and f/g are
 -- equal when e × g = f × d. Two rates are equal when their 32 bits are. Bits b stand for the number v over 2^150, where v is
 -- `value_of b`: 0 for b = 0, else 8,388,608 plus the remainder of b by 8,388,608, times 2 to the power of the quotient.
-use Rattle.std.specs.Prelude.{◌≡◌, ◌↔◌, ℕ, ◌+◌, ◌*◌, ◌^◌, ◌≤◌, min, Bool, cond, List, [], map, length, take, drop, get_or}
+use Rattle.std.specs.Prelude.{Ok, unwrap_or, ◌≡◌, ◌↔◌, ℕ, ◌+◌, ◌*◌, ◌^◌, ◌≤◌, min, Bool, cond, List, [], map, length, take, drop, get_or}
 use Rattle.std.specs.Float.{binary32}
 use Rattle.std.specs.Float.Ieee.{to_bits}
 use Rattle.lists.specs.Table.{tabulate}
@@ -16,11 +16,9 @@ use Rattle.byte_numbers.specs.Bytes.{number_of, words16}
 use Rattle.fields.specs.Encoding.{whole_fields}
 use Rattle.molecule_encoding.specs.Format as tray
 use Rattle.duplex_metrics.specs.Metrics.{Input, input, metrics_of}
-use Rattle.duplex_metrics.specs.declared.Metrics.TheVariants.{Of}
 use Rattle.duplex_metrics.specs.declared.MetricsRecord.{MetricsRecord}
 use Rattle.metrics_bits.specs.Bits.{metrics_words}
 use Rattle.metrics_bits.specs.declared.MetricsBits.{MetricsBits}
-use Rattle.metrics_bits.specs.declared.MetricsWords.TheVariants.{Of as Of-bits}
 use Rattle.c_metrics.specs.Bytes.{MetricsEntry, seen}
 use Rattle.replies.specs.Choices.{yes}
 use Rattle.rust_metrics.specs.Answers.{metrics_reply}
@@ -48,9 +46,9 @@ text line = take line.length line.bytes
 -- A call that returned rates: what it was given, whatever that is, and what it returned, by its contract.
 pub data Returned : Type 0 where
   -- `duplex_metrics`, rates as floats
-  floats : (given : Input) (r : MetricsRecord) → Of r ≡ metrics_of given → Returned
+  floats : (given : Input) (r : MetricsRecord) → Ok r ≡ metrics_of given → Returned
   -- `metrics_bits`
-  as_bits : (given : Input) (r : MetricsBits) → Of-bits r ≡ metrics_words (metrics_of given) → Returned
+  as_bits : (given : Input) (r : MetricsBits) → Ok r ≡ metrics_words (metrics_of given) → Returned
   -- `metrics_of_bytes`, accepted: arrays as bytes, its output before the call and after it
   in_bytes : (given : Input) (before after : List ℕ) → MetricsEntry (seen given) before after 0 → Returned
   -- `gedrashiw_metrics`, accepted
@@ -115,7 +113,7 @@ from_bytes a a_errors second b b_errors errors =
 
 -- The numbers in the field of a molecule with a tag, as far as a record of n positions goes.
 abbrev pub field : List ℕ → ℕ → ℕ → List ℕ
-field bytes tag n = take n (words16 (tray.value_of tag (whole_fields bytes)))
+field bytes tag n = take n (words16 (unwrap_or (tray.value_of tag (whole_fields bytes)) []))
 
 -- Those of a printed record of n positions with these errors: its own strands, of which B alone is the first.
 abbrev pub from_molecule : List ℕ → Own → ℕ → List ℕ → Measured

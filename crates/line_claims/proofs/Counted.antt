@@ -11,9 +11,8 @@ use lib.Seq.{get_or-take, get_or-drop}
 use Rattle.lists.specs.Count.{count_of}
 use Rattle.lists.specs.Part.{part}
 use Rattle.lists.proofs.Count.{count_cons}
-use Rattle.lists.proofs.Part.{stays}
+use Rattle.lists.proofs.Parts.{stays}
 use Rattle.flags.specs.Flags.{is_set}
-use Rattle.caller.specs.Short.{short}
 use Rattle.duplex_molecule.specs.Molecule.{is_error}
 use Rattle.source_reads.specs.Reads.{read_leaves, any_leaves, reaches, read_error, read_errors}
 use Rattle.source_reads.specs.declared.SourceRead.{SourceRead}
@@ -81,7 +80,7 @@ module _ (run : List ℕ) (expected : Bool → ℕ) (i : ℕ) where
   by_field (f ∷ fs) = count_cons wrong (said f) (map said fs) ∙ rw (by_field fs) (sym (count_cons (field_error expected i) f fs))
 
 pub each_counted : EachCounted
-unfolding list_errors read_errors short
+unfolding list_errors read_errors
 each_counted a b fs i few all =
     let are = each_read fs few all in
     ap (λ (n : ℕ). min n 32767)

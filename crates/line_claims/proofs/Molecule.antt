@@ -4,55 +4,58 @@
 -- Assumes nothing.
 use mathlib.Core.Path.{◌≡◌, refl, sym, ap, subst, ◌∙◌}
 use mathlib.Core.Bool.{Bool, true, false, cond, not, ◌&&◌, ◌||◌}
-use mathlib.Core.List.{List, [], ◌∷◌, map}
-use Prim.Native.Nat.{ℕ, zero, suc, ◌≤◌, ◌-◌, min}
+use mathlib.Core.List.{List, [], ◌∷◌}
+use Prim.Native.Nat.{ℕ, ◌+◌, ◌≤◌, min}
 use native.Mathlib.Omega.{arith}
-use lib.ListN.{length, drop, replicate, length-map, length-append, length-drop, length-replicate}
-use Rattle.lists.specs.Output.{put, answer, after, unless}
+use lib.ListN.{length, drop, length-map, length-append, length-drop, length-replicate}
+use Rattle.std.proofs.Common.{Option, Some, None, Result, Ok}
+use Rattle.std.specs.Prelude.{is_some}
+use Rattle.lists.specs.Output.{put}
 use Rattle.lists.specs.Part.{only_if}
-use Rattle.refusals.specs.Refusal.{too_long, ragged, too_many, refusal}
+use Rattle.refusals.specs.declared.Refusal.{Refusal}
+use Rattle.refusals.specs.declared.Refusal.TheVariants.{Broken, TooLong, Ragged, TooManyReads, PartOutside}
+use Rattle.refusals.specs.Refusal.{number_of, too_long, ragged, too_many}
+use Rattle.refusals.specs.Outcome.{answer, after}
 use Rattle.refusals.proofs.Condition.{neither}
 use Rattle.byte_numbers.specs.Bytes.{words16, words32}
 use Rattle.fields.specs.Encoding.{Field, encoded, whole_fields}
 use Rattle.molecule_fields.specs.Widths.{is_run}
-use Rattle.molecule_encoding.specs.Format.{has, molecule, decoded, value_of, value_at}
-use Rattle.molecule_encoding.specs.Claims.{EncodesMolecule, with_tag, PartsAre}
-use Rattle.molecule_encoding.specs.declared.Molecule.{Molecule}
-use Rattle.molecule_encoding.specs.declared.Decoded.TheVariants.{Of}
+use Rattle.molecule_encoding.specs.Format.{StrandParts, MoleculeParts, has, decoded}
+use Rattle.molecule_encoding.specs.Claims.{EncodesMolecule, part_of, with_tag, StrandIs, PartsAre}
 use Rattle.molecule_encoding.proofs.Claims.{only}
 use Rattle.molecule_encoding.proofs.Parts.{all_fit, no_reads, tagged_reads, tagged_short, holds}
+use Rattle.molecule_encoding.proofs.Values.{value_there}
 use Rattle.molecule_reads.specs.Run.{reads_of}
 use Rattle.molecule_reads.specs.Claims.{said, shown, ReadsAre}
 use Rattle.molecule_reads.proofs.Claims.{only_these, each_read}
-use Rattle.molecule_strand.specs.Strand.{StrandBytes, strand_of}
+use Rattle.molecule_strand.specs.Strand.{StrandBytes, strand_bytes, strand_of}
 use Rattle.duplex_min_reads.specs.MinReads.{refused}
-use Rattle.duplex_kind.specs.Kind.{Strand, given, positions, shorter_present, record_length, covered, kind_by, kind_of, long, uneven, given_faults}
-use Rattle.duplex_kind.specs.declared.DuplexConsensus.{DuplexConsensus}
-use Rattle.duplex_kind.specs.declared.DuplexConsensus.TheVariants.{Refused, NoRecord, Ab, Ba, Both}
+use Rattle.duplex_kind.specs.Kind.{Strand, given, positions, record_length, covered, kind_of, long, uneven}
+use Rattle.duplex_kind.specs.declared.DuplexConsensus.TheVariants.{Ab, Ba, Both}
 use Rattle.duplex_metrics.specs.Metrics.{input}
-use Rattle.molecule_consensus.specs.Bytes.{seen, misfit, broken, inputs_refused}
+use Rattle.molecule_consensus.specs.Bytes.{seen, misfit}
 use Rattle.line_format.specs.Line.{Columns, columns, refused_text}
 use Rattle.line_format.specs.declared.Kind.{Kind}
 use Rattle.line_format.specs.declared.Kind.TheVariants.{Ab as Ab-kind, Ba as Ba-kind, Both as Both-kind}
-use Rattle.line_report.specs.Report.{Strands, strands, reported}
+use Rattle.line_report.specs.Report.{Strands, strands, some_report, reported}
 use Rattle.line_report.specs.declared.Report.{Report}
 use Rattle.line_record.specs.Line.{front, report_text, answer_text}
-use Rattle.line_strands.specs.Strands.{zeros, number_of, record_in, counts_of, strands_text}
-use Rattle.line_molecule.specs.Line.{strand_in, read_text, molecule_text}
+use Rattle.line_strands.specs.Strands.{zeros, refusal_of, record_in, counts_of, strands_text}
+use Rattle.line_molecule.specs.Line.{value_or, annotation_in, strand_in, read_text, text_unless, molecule_text}
 use Rattle.line_claims.specs.Claims.{places, Printed, none, record_line, TheReads}
-use Rattle.line_claims.proofs.Places.{Sized, strand_in_lem, sized_a, sized_b}
+use Rattle.line_claims.proofs.Places.{Sized, value, strand_in_lem, same_value, sized_a, sized_b}
 use Rattle.line_claims.proofs.Report.{Measured, Even, own_report}
 
 -- The rows of its own that a molecule can meet, beside its thresholds'.
-abbrev rows : Bool → Bool → Bool → ℕ
-rows long uneven many = cond long 7 (cond uneven 8 (cond many 9 0))
+abbrev rows : Bool → Bool → Bool → Option Refusal
+rows long uneven many = cond long (Some TooLong) (cond uneven (Some Ragged) (cond many (Some TooManyReads) None))
 
-abbrev pub own_number : List ℕ → List ℕ → ℕ → ℕ
-own_number pa pb reads = rows (too_long pa || too_long pb) (ragged pa || ragged pb) (too_many (reads ∷ []))
+abbrev pub own_row : List ℕ → List ℕ → ℕ → Option Refusal
+own_row pa pb reads = rows (too_long pa || too_long pb) (ragged pa || ragged pb) (too_many (reads ∷ []))
 
-cleared : (l u t : Bool) → rows l u t ≡ 0 → (l ≡ false) × (u ≡ false)
-cleared true u t e = let no : ⊥ = omega arith in absurd no
-cleared false true t e = let no : ⊥ = omega arith in absurd no
+cleared : (l u t : Bool) → rows l u t ≡ None → (l ≡ false) × (u ≡ false)
+cleared true u t e = absurd cc
+cleared false true t e = absurd cc
 cleared false false t e = (refl, refl)
 
 and_none : (b : Bool) → (b && false) ≡ false
@@ -61,7 +64,7 @@ and_none false = refl
 
 -- A buffer of 1,024 places to whose front something was written.
 ample : (xs : List ℕ) → 1024 ≤ length (put xs zeros)
-unfolding put zeros
+unfolding put
 ample xs = simp (length-append, length-drop, length-replicate) (omega arith)
 
 -- A record's length is no more than either strand's bases.
@@ -74,7 +77,6 @@ few_positions s h = go s.present
     go false = omega arith
 
 few_record : (a b : Strand) → positions a ≤ 1024 → positions b ≤ 1024 → record_length a b ≤ 1024
-unfolding shorter_present
 few_record a b ha hb = go a.present b.present
   where
     go : (pa pb : Bool) → cond pa (cond pb (min (positions a) (positions b)) (positions a)) (cond pb (positions b) 0) ≤ 1024
@@ -84,12 +86,11 @@ few_record a b ha hb = go a.present b.present
     go false false = omega arith
 
 -- The text of a report that is no refusal.
-printed : {kind : Kind} {n : ℕ} {r : Report} (c : Columns) → Measured kind n r → Printed (report_text r c)
-unfolding report_text
-printed {kind} {n} {r} c m = record_line kind m.kept (front n c) m.metrics (ap (λ (x : Report). report_text x c) m.is)
+printed : {kind : Kind} {n : ℕ} {r : Result Report Refusal} (c : Columns) → Measured kind n r → Printed (report_text (some_report r) c)
+printed {kind} {n} {r} c m = record_line kind m.kept (front n c) m.metrics (ap (λ (x : Result Report Refusal). report_text (some_report x) c) m.is)
 
 module _
-    (ts : List ℕ) (z : refused ts ≡ 0)
+    (ts : List ℕ) (z : refused ts ≡ None)
     (a b : StrandBytes) (pa pb : List ℕ) (sa : Sized a pa) (sb : Sized b pb)
     (listed : Bool) (run : List ℕ) (reads : ℕ)
     (whole : is_run run ≡ true) (counted : (listed && too_many (length (reads_of run) ∷ [])) ≡ too_many (reads ∷ []))
@@ -100,29 +101,38 @@ module _
     abbrev B : Strand
     B = strand_of (seen b)
 
-    number_is : number_of a b listed run ≡ own_number pa pb reads
-    unfolding inputs_refused broken given_faults refusal
-    number_is =
+    abbrev all_rows : Bool → Bool → Bool → Bool → Bool → Option Refusal
+    all_rows broken l u many outside = cond broken (Some Broken) (cond l (Some TooLong) (cond u (Some Ragged) (cond many (Some TooManyReads) (cond outside (Some PartOutside) None))))
+
+    row_is : refusal_of a b listed run ≡ own_row pa pb reads
+    row_is =
         let fits : (misfit (seen a) || (misfit (seen b) || (listed && not (is_run run)))) ≡ false = rw (sa.fits, sb.fits, whole) (and_none listed) in
         let l : (long (given A) || long (given B)) ≡ (too_long pa || too_long pb) = rw (sa.long_is, sb.long_is) in
         let u : (uneven (given A) || uneven (given B)) ≡ (ragged pa || ragged pb) = rw (sa.uneven_is, sb.uneven_is) in
-        ap (λ (x : Bool). cond x 13 (cond (long (given A) || long (given B)) 7 (cond (uneven (given A) || uneven (given B)) 8 (cond (listed && too_many (length (reads_of run) ∷ [])) 9 (cond (listed && false) 10 0))))) fits
-        ∙ ap (λ (x : Bool). cond x 7 (cond (uneven (given A) || uneven (given B)) 8 (cond (listed && too_many (length (reads_of run) ∷ [])) 9 (cond (listed && false) 10 0)))) l
-        ∙ ap (λ (x : Bool). cond (too_long pa || too_long pb) 7 (cond x 8 (cond (listed && too_many (length (reads_of run) ∷ [])) 9 (cond (listed && false) 10 0)))) u
-        ∙ ap (λ (x : Bool). cond (too_long pa || too_long pb) 7 (cond (ragged pa || ragged pb) 8 (cond x 9 (cond (listed && false) 10 0)))) counted
-        ∙ ap (λ (x : Bool). cond (too_long pa || too_long pb) 7 (cond (ragged pa || ragged pb) 8 (cond (too_many (reads ∷ [])) 9 (cond x 10 0)))) (and_none listed)
-
-    pub refused_text_lem : (k : ℕ) → own_number pa pb reads ≡ suc k → strands_text ts a b listed run ≡ refused_text (suc k)
-    unfolding strands_text answer_text report_text reported answer unless
-    refused_text_lem k e = rw (number_is ∙ e)
-
-    abbrev c : Columns
-    c = columns (put (record_in a b listed run).bases zeros) (put (record_in a b listed run).quals zeros) (put (record_in a b listed run).errors zeros)
+        ap (λ (x : Bool). all_rows x (long (given A) || long (given B)) (uneven (given A) || uneven (given B)) (listed && too_many (length (reads_of run) ∷ [])) (listed && false)) fits
+        ∙ ap (λ (x : Bool). all_rows false x (uneven (given A) || uneven (given B)) (listed && too_many (length (reads_of run) ∷ [])) (listed && false)) l
+        ∙ ap (λ (x : Bool). all_rows false (too_long pa || too_long pb) x (listed && too_many (length (reads_of run) ∷ [])) (listed && false)) u
+        ∙ ap (λ (x : Bool). all_rows false (too_long pa || too_long pb) (ragged pa || ragged pb) x (listed && false)) counted
+        ∙ ap (λ (x : Bool). all_rows false (too_long pa || too_long pb) (ragged pa || ragged pb) (too_many (reads ∷ [])) x) (and_none listed)
 
     abbrev S : Strands
     S = strands (counts_of a) (counts_of b)
 
-    module _ (e : own_number pa pb reads ≡ 0) where
+    -- The text by the row that refuses.
+    abbrev text_by : Option Refusal → List ℕ
+    text_by row = answer_text (answer row (kind_of A B)) S ts (columns (after row (record_in a b listed run).bases zeros) (after row (record_in a b listed run).quals zeros) (after row (record_in a b listed run).errors zeros))
+
+    text_by_row : strands_text ts a b listed run ≡ text_by (refusal_of a b listed run)
+    unfolding strands_text
+    text_by_row = refl
+
+    pub refused_text_lem : (row : Refusal) → own_row pa pb reads ≡ Some row → strands_text ts a b listed run ≡ refused_text (number_of row)
+    refused_text_lem row e = text_by_row ∙ ap text_by (row_is ∙ e)
+
+    abbrev c : Columns
+    c = columns (put (record_in a b listed run).bases zeros) (put (record_in a b listed run).quals zeros) (put (record_in a b listed run).errors zeros)
+
+    module _ (e : own_row pa pb reads ≡ None) where
       clear : ((too_long pa || too_long pb) ≡ false) × ((ragged pa || ragged pb) ≡ false)
       clear = cleared (too_long pa || too_long pb) (ragged pa || ragged pb) (too_many (reads ∷ [])) e
 
@@ -150,40 +160,50 @@ module _
         errors = ample (record_in a b listed run).errors;
       }
 
-      by_kind : (in_a in_b : Bool) → Printed (report_text (reported (cond in_a (cond in_b (Both (record_length A B)) (Ab (positions A))) (cond in_b (Ba (positions B)) NoRecord)) S ts c.bases c.errors) c)
-      unfolding reported
+      by_kind : (in_a in_b : Bool) → Printed (report_text (reported (Ok (cond in_a (cond in_b (Some (Both (record_length A B))) (Some (Ab (positions A)))) (cond in_b (Some (Ba (positions B))) None))) S ts c.bases c.errors) c)
       by_kind true true = printed c (own_report (record_length A B) (input (words16 a.depths) (words16 a.errors) true (words16 b.depths) (words16 b.errors) c.bases c.errors) even_both ts z Both-kind)
       by_kind true false = printed c (own_report (positions A) (input (words16 a.depths) (words16 a.errors) false [] [] c.bases c.errors) (even_alone (positions A) (words16 a.depths) (words16 a.errors) few_a pair_a) ts z Ab-kind)
       by_kind false true = printed c (own_report (positions B) (input (words16 b.depths) (words16 b.errors) false [] [] c.bases c.errors) (even_alone (positions B) (words16 b.depths) (words16 b.errors) few_b pair_b) ts z Ba-kind)
-      by_kind false false = none (unfold report_text in refl)
+      by_kind false false = none refl
 
-      opened : strands_text ts a b listed run ≡ report_text (reported (kind_of A B) S ts c.bases c.errors) c
-      unfolding strands_text answer_text answer after unless
-      opened = rw (number_is ∙ e)
+      opened : strands_text ts a b listed run ≡ report_text (reported (Ok (kind_of A B)) S ts c.bases c.errors) c
+      opened = text_by_row ∙ ap text_by (row_is ∙ e)
 
       pub printed_text : Printed (strands_text ts a b listed run)
-      unfolding kind_by
       printed_text = subst (λ (t : List ℕ). Printed t) (sym opened) (by_kind (covered (record_length A B) A) (covered (record_length A B) B))
 
--- The text, given the thresholds' bytes, the strands, and the reads.
+-- The strand of some values that may be absent.
+abbrev strand_by_values : Option (List ℕ) → Option (List ℕ) → Option (List ℕ) → Option (List ℕ) → Option (List ℕ) → StrandBytes
+strand_by_values b q d e v = strand_bytes (is_some b) (annotation_in v) (value_or b) (value_or q) (value_or d) (value_or e) (drop 1 (value_or v))
+
+by_parts : (s : Option StrandParts) → strand_in s ≡ strand_by_values (part_of (λ (x : StrandParts). Some x.bases) s) (part_of (λ (x : StrandParts). Some x.quals) s) (part_of (λ (x : StrandParts). Some x.depths) s) (part_of (λ (x : StrandParts). Some x.errors) s) (part_of (λ (x : StrandParts). x.annotation) s)
+by_parts None = refl
+by_parts (Some s) = refl
+
+same_values : {b q d e v b' q' d' e' v' : Option (List ℕ)} → b ≡ b' → q ≡ q' → d ≡ d' → e ≡ e' → v ≡ v' → strand_by_values b q d e v ≡ strand_by_values b' q' d' e' v'
+same_values {b} {q} {d} {e} {v} {b'} {q'} {d'} {e'} {v'} hb hq hd he hv =
+    ap (λ (x : Option (List ℕ)). strand_by_values x q d e v) hb
+    ∙ ap (λ (x : Option (List ℕ)). strand_by_values b' x d e v) hq
+    ∙ ap (λ (x : Option (List ℕ)). strand_by_values b' q' x e v) hd
+    ∙ ap (λ (x : Option (List ℕ)). strand_by_values b' q' d' x v) he
+    ∙ ap (λ (x : Option (List ℕ)). strand_by_values b' q' d' e' x) hv
+
+strand_is : (fs : List Field) (first : ℕ) (s : Option StrandParts) → StrandIs fs first s → strand_in s ≡ strand_in_lem first fs
+strand_is fs first s h = by_parts s ∙ same_values h.bases h.quals h.depths h.errors h.annotation ∙ rw (value_there first fs, value_there (first + 4) fs)
+
+-- The text, given the thresholds, the strands, and the reads.
 abbrev text_of : List ℕ → StrandBytes → StrandBytes → Bool → List ℕ → List ℕ
-text_of v a b listed run = unless (refused (words32 v)) (refused_text (refused (words32 v))) (strands_text (words32 v) a b listed run)
+text_of ts a b listed run = text_unless (refused ts) (strands_text ts a b listed run)
 
-module _ (bytes : List ℕ) (fs : List Field) (m : Molecule) (parts : PartsAre bytes fs m) where
-  a_is : strand_in bytes m.a ≡ strand_in_lem 0x10 fs
-  a_is = rw (parts.a_bases.there, parts.a_annotation.there, parts.a_bases.value, parts.a_quals.value, parts.a_depths.value, parts.a_errors.value, parts.a_annotation.value)
-
-  b_is : strand_in bytes m.b ≡ strand_in_lem 0x20 fs
-  b_is = rw (parts.b_bases.there, parts.b_annotation.there, parts.b_bases.value, parts.b_quals.value, parts.b_depths.value, parts.b_errors.value, parts.b_annotation.value)
-
-  text_is : molecule_text bytes m ≡ text_of (value_of 0x01 fs) (strand_in_lem 0x10 fs) (strand_in_lem 0x20 fs) (has 0x2f fs) (encoded (with_tag 0x30 fs))
+module _ (fs : List Field) (m : MoleculeParts) (parts : PartsAre fs m) where
+  text_is : molecule_text m ≡ text_of (words32 (value 0x01 fs)) (strand_in_lem 0x10 fs) (strand_in_lem 0x20 fs) (has 0x2f fs) (encoded (with_tag 0x30 fs))
   unfolding molecule_text read_text
   text_is =
-      ap (λ (v : List ℕ). text_of v (strand_in bytes m.a) (strand_in bytes m.b) m.reads.present (value_at bytes m.reads)) parts.thresholds.value
-      ∙ ap (λ (s : StrandBytes). text_of (value_of 0x01 fs) s (strand_in bytes m.b) m.reads.present (value_at bytes m.reads)) a_is
-      ∙ ap (λ (s : StrandBytes). text_of (value_of 0x01 fs) (strand_in_lem 0x10 fs) s m.reads.present (value_at bytes m.reads)) b_is
-      ∙ ap (λ (l : Bool). text_of (value_of 0x01 fs) (strand_in_lem 0x10 fs) (strand_in_lem 0x20 fs) l (value_at bytes m.reads)) parts.listed
-      ∙ ap (λ (r : List ℕ). text_of (value_of 0x01 fs) (strand_in_lem 0x10 fs) (strand_in_lem 0x20 fs) (has 0x2f fs) r) parts.reads
+      ap (λ (v : Option (List ℕ)). text_of (words32 (value_or v)) (strand_in m.a) (strand_in m.b) (is_some m.reads) (value_or m.reads)) parts.thresholds
+      ∙ ap (λ (s : StrandBytes). text_of (words32 (value 0x01 fs)) s (strand_in m.b) (is_some m.reads) (value_or m.reads)) (strand_is fs 0x10 m.a parts.a)
+      ∙ ap (λ (s : StrandBytes). text_of (words32 (value 0x01 fs)) (strand_in_lem 0x10 fs) s (is_some m.reads) (value_or m.reads)) (strand_is fs 0x20 m.b parts.b)
+      ∙ ap (λ (l : Bool). text_of (words32 (value 0x01 fs)) (strand_in_lem 0x10 fs) (strand_in_lem 0x20 fs) l (value_or m.reads)) parts.listed
+      ∙ ap (λ (r : List ℕ). text_of (words32 (value 0x01 fs)) (strand_in_lem 0x10 fs) (strand_in_lem 0x20 fs) (has 0x2f fs) r) (same_value m.reads ∙ parts.reads)
 
 reads_are : {bytes : List ℕ} {fs : List Field} → EncodesMolecule bytes fs → ReadsAre (with_tag 0x30 fs)
 reads_are {bytes} {fs} x = each_read (with_tag 0x30 fs) (tagged_short fs x.encodes.short) (only_these (with_tag 0x30 fs) (tagged_reads fs (all_fit fs x.is_valid)))
@@ -194,15 +214,15 @@ the_reads bytes m small e =
     let parts = holds bytes (whole_fields bytes) m x e in
     rw parts.reads (reads_are x).reads
 
-module _ (bytes : List ℕ) (fs : List Field) (m : Molecule) (x : EncodesMolecule bytes fs) (e : decoded bytes ≡ Of m) where
+module _ (bytes : List ℕ) (fs : List Field) (m : MoleculeParts) (x : EncodesMolecule bytes fs) (e : decoded bytes ≡ Ok m) where
   abbrev run : List ℕ
   run = encoded (with_tag 0x30 fs)
 
   abbrev ts : List ℕ
-  ts = words32 (value_of 0x01 fs)
+  ts = words32 (value 0x01 fs)
 
-  abbrev pub own : ℕ
-  own = own_number (places 0x10 fs) (places 0x20 fs) (length (with_tag 0x30 fs))
+  abbrev pub own : Option Refusal
+  own = own_row (places 0x10 fs) (places 0x20 fs) (length (with_tag 0x30 fs))
 
   how_many : length (reads_of run) ≡ length (with_tag 0x30 fs)
   how_many = sym (length-map (reads_of run) (shown run)) ∙ ap length (reads_are x).reads ∙ length-map (with_tag 0x30 fs) said
@@ -214,24 +234,25 @@ module _ (bytes : List ℕ) (fs : List Field) (m : Molecule) (x : EncodesMolecul
       go true h = ap (λ (n : ℕ). too_many (n ∷ [])) how_many
       go false h = rw (no_reads fs x.is_valid h)
 
-  here : molecule_text bytes m ≡ text_of (value_of 0x01 fs) (strand_in_lem 0x10 fs) (strand_in_lem 0x20 fs) (has 0x2f fs) run
-  here = text_is bytes fs m (holds bytes fs m x e)
+  here : molecule_text m ≡ text_of ts (strand_in_lem 0x10 fs) (strand_in_lem 0x20 fs) (has 0x2f fs) run
+  here = text_is fs m (holds bytes fs m x e)
 
-  pub by_thresholds : (k : ℕ) → refused ts ≡ suc k → molecule_text bytes m ≡ refused_text (suc k)
-  unfolding unless
-  by_thresholds k r = here ∙ rw r
+  abbrev strands_text_of : List ℕ
+  strands_text_of = strands_text ts (strand_in_lem 0x10 fs) (strand_in_lem 0x20 fs) (has 0x2f fs) run
 
-  module _ (z : refused ts ≡ 0) where
-    strands_text_lem : molecule_text bytes m ≡ strands_text ts (strand_in_lem 0x10 fs) (strand_in_lem 0x20 fs) (has 0x2f fs) run
-    unfolding unless
-    strands_text_lem = here ∙ rw z
+  pub by_thresholds : (row : Refusal) → refused ts ≡ Some row → molecule_text m ≡ refused_text (number_of row)
+  by_thresholds row r = here ∙ ap (λ (k : Option Refusal). text_unless k strands_text_of) r
 
-    pub by_rows : (k : ℕ) → own ≡ suc k → molecule_text bytes m ≡ refused_text (suc k)
-    by_rows k r =
+  module _ (z : refused ts ≡ None) where
+    strands_text_lem : molecule_text m ≡ strands_text_of
+    strands_text_lem = here ∙ ap (λ (k : Option Refusal). text_unless k strands_text_of) z
+
+    pub by_rows : (row : Refusal) → own ≡ Some row → molecule_text m ≡ refused_text (number_of row)
+    by_rows row r =
         strands_text_lem
-        ∙ refused_text_lem ts z (strand_in_lem 0x10 fs) (strand_in_lem 0x20 fs) (places 0x10 fs) (places 0x20 fs) (sized_a fs x.is_valid) (sized_b fs x.is_valid) (has 0x2f fs) run (length (with_tag 0x30 fs)) (reads_are x).whole counted_are k r
+        ∙ refused_text_lem ts z (strand_in_lem 0x10 fs) (strand_in_lem 0x20 fs) (places 0x10 fs) (places 0x20 fs) (sized_a fs x.is_valid) (sized_b fs x.is_valid) (has 0x2f fs) run (length (with_tag 0x30 fs)) (reads_are x).whole counted_are row r
 
-    pub by_record : own ≡ 0 → Printed (molecule_text bytes m)
+    pub by_record : own ≡ None → Printed (molecule_text m)
     by_record r =
         subst (λ (t : List ℕ). Printed t) (sym strands_text_lem)
         (printed_text ts z (strand_in_lem 0x10 fs) (strand_in_lem 0x20 fs) (places 0x10 fs) (places 0x20 fs) (sized_a fs x.is_valid) (sized_b fs x.is_valid) (has 0x2f fs) run (length (with_tag 0x30 fs)) (reads_are x).whole counted_are r)

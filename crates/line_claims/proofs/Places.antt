@@ -11,12 +11,12 @@ use native.Mathlib.Omega.{arith}
 use borrow.Author.Tests.{eqb-true}
 use lib.Dec.{eqb, ltb}
 use lib.ListN.{length, drop, get_or, length-drop}
+use Rattle.std.proofs.Common.{Option, Some, None, unwrap_or}
+use Rattle.std.specs.Prelude.{is_some}
 use Rattle.lists.specs.Every.{every}
 use Rattle.lists.specs.Part.{only_if}
 use Rattle.refusals.specs.Refusal.{too_long, ragged}
 use Rattle.refusals.proofs.Condition.{both_hold, neither, not_too_long, not_ragged}
-use Rattle.methylation.specs.Arrays.{evidence_too_long, evidence_uneven}
-use Rattle.vanilla_caller.specs.Strand.{strand_too_long, strand_ragged}
 use Rattle.byte_numbers.specs.Bytes.{words16}
 use Rattle.byte_numbers.proofs.Bytes.{length_numbers}
 use Rattle.byte_numbers.proofs.Groups.{length_by_group}
@@ -25,10 +25,12 @@ use Rattle.molecule_fields.specs.Widths.{known_tag, length_fits, bits_fit, well_
 use Rattle.molecule_encoding.specs.Format.{has, whole_strand, annotated_strand, valid, value_of}
 use Rattle.molecule_encoding.proofs.Claims.{value_fits}
 use Rattle.molecule_encoding.proofs.Parts.{all_fit, a_whole, b_whole}
+use Rattle.molecule_encoding.proofs.Values.{value_there}
 use Rattle.molecule_evidence.specs.Evidence.{mark_in, count_in}
 use Rattle.molecule_strand.specs.Strand.{StrandBytes, strand_bytes, annotation_of, strand_of}
 use Rattle.duplex_kind.specs.Kind.{given, long, uneven}
 use Rattle.molecule_consensus.specs.Bytes.{seen, misfit}
+use Rattle.line_molecule.specs.Line.{value_or}
 use Rattle.line_claims.specs.Claims.{places}
 
 -- What is known of a strand as bytes, beside how many positions each of its arrays has.
@@ -67,7 +69,7 @@ module _ (p : ℕ) (b q d e v : List ℕ) where
   lengths_of_lem annotated = length b ∷ length q ∷ length d / 2 ∷ length e / 2 ∷ cond annotated ((length v - 1) / 9 ∷ []) []
 
   fits_of : (present annotated : Bool) → Fitting present annotated b q d e v → misfit (seen (given_bytes present annotated)) ≡ false
-  unfolding only_if annotation_of
+  unfolding only_if
   fits_of true true w =
       let even : length (drop 1 v) % 9 ≡ 0 = simp length-drop (omega (arith, w.evidence refl)) in
       rw (w.depths, w.errors, even)
@@ -75,7 +77,7 @@ module _ (p : ℕ) (b q d e v : List ℕ) where
   fits_of false annotated w = refl
 
   long_of : (present annotated : Bool) → Fitting present annotated b q d e v → long (given (strand_of (seen (given_bytes present annotated)))) ≡ too_long (lengths_of_lem annotated)
-  unfolding only_if annotation_of strand_of strand_too_long evidence_too_long
+  unfolding only_if strand_of
   long_of true true w =
       rw
       (length_numbers 2 d, length_numbers 2 e, length_by_group 9 mark_in (drop 1 v), length_by_group 9 (count_in 1) (drop 1 v), length_by_group 9 (count_in 5) (drop 1 v), length-drop 1 v)
@@ -87,7 +89,7 @@ module _ (p : ℕ) (b q d e v : List ℕ) where
       rw (nb, nq, nd, ne)
 
   uneven_of : (present annotated : Bool) → Fitting present annotated b q d e v → uneven (given (strand_of (seen (given_bytes present annotated)))) ≡ ragged (lengths_of_lem annotated)
-  unfolding only_if annotation_of strand_of strand_ragged evidence_uneven
+  unfolding only_if strand_of
   uneven_of true true w =
       rw
       (length_numbers 2 d, length_numbers 2 e, length_by_group 9 mark_in (drop 1 v), length_by_group 9 (count_in 1) (drop 1 v), length_by_group 9 (count_in 5) (drop 1 v), length-drop 1 v)
@@ -115,12 +117,21 @@ module _ (p : ℕ) (b q d e v : List ℕ) where
     paired = paired_of annotated;
   }
 
+-- The value of a tag: none where no field has it.
+abbrev pub value : ℕ → List Field → List ℕ
+value tag fs = value_or (value_of tag fs)
+
 -- The strand of some fields, whose first tag is given.
 abbrev pub strand_in_lem : ℕ → List Field → StrandBytes
-strand_in_lem first fs = strand_bytes (has first fs) (annotation_of (has (first + 4) fs) (get_or (value_of (first + 4) fs) 0 0)) (value_of first fs) (value_of (first + 1) fs) (value_of (first + 2) fs) (value_of (first + 3) fs) (drop 1 (value_of (first + 4) fs))
+strand_in_lem first fs = strand_bytes (has first fs) (annotation_of (has (first + 4) fs) (get_or (value (first + 4) fs) 0 0)) (value first fs) (value (first + 1) fs) (value (first + 2) fs) (value (first + 3) fs) (drop 1 (value (first + 4) fs))
+
+-- Both ways to say that a value may be absent.
+pub same_value : (v : Option (List ℕ)) → value_or v ≡ unwrap_or v []
+same_value None = refl
+same_value (Some v) = refl
 
 -- A tag that no field has is of no value.
-unvalued : (tag : ℕ) (fs : List Field) → has tag fs ≡ false → length (value_of tag fs) ≡ 0
+unvalued : (tag : ℕ) (fs : List Field) → has tag fs ≡ false → length (value tag fs) ≡ 0
 unfolding has value_of
 unvalued tag [] e = refl
 unvalued tag (f ∷ fs) e =
@@ -128,12 +139,15 @@ unvalued tag (f ∷ fs) e =
     rw here (unvalued tag fs later)
 
 -- The value of a tag that is there has a length that fits.
-fitting_length : (tag : ℕ) (fs : List Field) → every well_formed fs ≡ true → has tag fs ≡ true → length_fits tag (length (value_of tag fs)) ≡ true
+fitting_length : (tag : ℕ) (fs : List Field) → every well_formed fs ≡ true → has tag fs ≡ true → length_fits tag (length (value tag fs)) ≡ true
 unfolding well_formed
-fitting_length tag fs fit there =
-    let f = field tag (value_of tag fs) in
-    let (known, others) = both_hold (known_tag tag) (length_fits tag (length (value_of tag fs)) && bits_fit f) (value_fits tag fs fit there) in
-    (both_hold (length_fits tag (length (value_of tag fs))) (bits_fit f) others).0
+fitting_length tag fs fit there = go (value_of tag fs) refl (value_there tag fs ∙ there)
+  where
+    go : (v : Option (List ℕ)) → value_of tag fs ≡ v → is_some v ≡ true → length_fits tag (length (value_or v)) ≡ true
+    go None e s = absurd (true≢false (sym s))
+    go (Some v) e s =
+        let (known, others) = both_hold (known_tag tag) (length_fits tag (length v) && bits_fit (field tag v)) (value_fits tag fs fit e) in
+        (both_hold (length_fits tag (length v)) (bits_fit (field tag v)) others).0
 
 missing : (b c d : Bool) → not (b || (c || d)) ≡ true → (b ≡ false) × (c ≡ false) × (d ≡ false)
 missing true c d e = absurd (true≢false (sym e))
@@ -149,14 +163,14 @@ module _ (first : ℕ) (fs : List Field) (fit : every well_formed fs ≡ true) (
   abbrev Even : ℕ → Type 0
   Even tag = (n : ℕ) → length_fits tag n ≡ true → n % 2 ≡ 0
 
-  even_length : (tag : ℕ) → Even tag → length (value_of tag fs) % 2 ≡ 0
+  even_length : (tag : ℕ) → Even tag → length (value tag fs) % 2 ≡ 0
   even_length tag even = go (has tag fs) refl
     where
-      go : (there : Bool) → has tag fs ≡ there → length (value_of tag fs) % 2 ≡ 0
-      go true h = even (length (value_of tag fs)) (fitting_length tag fs fit h)
+      go : (there : Bool) → has tag fs ≡ there → length (value tag fs) % 2 ≡ 0
+      go true h = even (length (value tag fs)) (fitting_length tag fs fit h)
       go false h = omega (arith, unvalued tag fs h)
 
-  all_empty : has first fs ≡ false → (length (value_of first fs) ≡ 0) × (length (value_of (first + 1) fs) ≡ 0) × (length (value_of (first + 2) fs) ≡ 0) × (length (value_of (first + 3) fs) ≡ 0)
+  all_empty : has first fs ≡ false → (length (value first fs) ≡ 0) × (length (value (first + 1) fs) ≡ 0) × (length (value (first + 2) fs) ≡ 0) × (length (value (first + 3) fs) ≡ 0)
   unfolding whole_strand
   all_empty h =
       let (all, with) = both_hold (whole_strand first fs) (annotated_strand first fs) whole in
@@ -170,14 +184,15 @@ module _ (first : ℕ) (fs : List Field) (fit : every well_formed fs ≡ true) (
   sized_strand : Even (first + 2) → Even (first + 3) → ((n : ℕ) → length_fits (first + 4) n ≡ true → n % 9 ≡ 1) → Sized (strand_in_lem first fs) (places first fs)
   unfolding places
   sized_strand depths errors evidence =
-      sized_of (get_or (value_of (first + 4) fs) 0 0) (value_of first fs) (value_of (first + 1) fs) (value_of (first + 2) fs) (value_of (first + 3) fs) (value_of (first + 4) fs) (has first fs) (has (first + 4) fs)
+      rw (← same_value (value_of first fs), ← same_value (value_of (first + 1) fs), ← same_value (value_of (first + 2) fs), ← same_value (value_of (first + 3) fs), ← same_value (value_of (first + 4) fs))
+      (sized_of (get_or (value (first + 4) fs) 0 0) (value first fs) (value (first + 1) fs) (value (first + 2) fs) (value (first + 3) fs) (value (first + 4) fs) (has first fs) (has (first + 4) fs)
       (record {
         depths = even_length (first + 2) depths;
         errors = even_length (first + 3) errors;
-        evidence = λ h. evidence (length (value_of (first + 4) fs)) (fitting_length (first + 4) fs fit h);
+        evidence = λ h. evidence (length (value (first + 4) fs)) (fitting_length (first + 4) fs fit h);
         carried = with_strand;
         empty = all_empty;
-      })
+      }))
 
 -- The widths by tag.
 module _ (n : ℕ) where

@@ -1,37 +1,38 @@
 -- What duplexline prints for every input: `refuses` and `otherwise`, of specs/Claims.antt. Assumes nothing.
 use mathlib.Core.Path.{◌≡◌, refl, sym, ap, ◌∙◌}
-use mathlib.Core.Bool.{Bool, true, false, cond, not, ◌&&◌}
+use mathlib.Core.Bool.{Bool, true, false, cond, ◌&&◌}
 use mathlib.Core.List.{List, [], ◌∷◌}
-use Prim.Native.Nat.{ℕ, zero, suc, ◌<◌}
+use Prim.Native.Nat.{ℕ}
 use native.Mathlib.Omega.{arith}
 use borrow.Author.Tests.{le-ltb, lt-ltb, ne_eqb}
 use lib.Dec.{eqb, ltb}
 use lib.ListN.{length, get_or}
-use Rattle.refusals.specs.Refusal.{refusal}
+use Rattle.std.proofs.Common.{Option, Some, None, Ok, unwrap_or}
+use Rattle.std.specs.Prelude.{option_map}
+use Rattle.refusals.specs.declared.Refusal.{Refusal}
+use Rattle.refusals.specs.declared.Refusal.TheVariants.{Broken, NoThresholds, TooManyThresholds, XyAboveTotal, YxAboveXy}
+use Rattle.refusals.specs.Refusal.{number_of}
 use Rattle.byte_numbers.specs.Bytes.{words32}
 use Rattle.fields.specs.Encoding.{Field, IsBytes, whole_fields}
-use Rattle.molecule_encoding.specs.Format.{accepted, molecule, decoded, value_of}
+use Rattle.molecule_encoding.specs.Format.{MoleculeParts, accepted, molecule, decoded, value_of}
 use Rattle.molecule_encoding.specs.Claims.{EncodesMolecule}
-use Rattle.molecule_encoding.specs.declared.Molecule.{Molecule}
-use Rattle.molecule_encoding.specs.declared.Decoded.TheVariants.{Of}
 use Rattle.molecule_encoding.proofs.Claims.{only}
-use Rattle.duplex_min_reads.specs.MinReads.{faults, refused}
+use Rattle.duplex_min_reads.specs.MinReads.{refused}
 use Rattle.line_format.specs.Line.{refused_text}
 use Rattle.line_molecule.specs.Line.{decoded_text, text_of}
 use Rattle.line_claims.specs.Claims.{molecule_faults, line_faults, line_refused, Refuses, Printed, Otherwise}
 use Rattle.line_claims.proofs.Texts.{same_number, not_printed}
+use Rattle.line_claims.proofs.Places.{value, same_value}
 use Rattle.line_claims.proofs.Molecule.{own, by_thresholds, by_rows, by_record}
 
 -- The thresholds' rows, as the claim has them.
-abbrev threshold_rows : List ℕ → ℕ → ℕ
-threshold_rows ts rest =
-    cond (eqb (length ts) 0) 1
-    (cond (ltb 3 (length ts)) 2
-    (cond (ltb 1 (length ts) && ltb (get_or ts 0 0) (get_or ts 1 0)) 3
-    (cond (ltb 2 (length ts) && ltb (get_or ts 1 0) (get_or ts 2 0)) 4 rest)))
+abbrev four : Bool → Bool → Bool → Bool → Option Refusal → Option Refusal
+four a b c d rest = cond a (Some NoThresholds) (cond b (Some TooManyThresholds) (cond c (Some XyAboveTotal) (cond d (Some YxAboveXy) rest)))
 
-thresholds_are : (ts : List ℕ) → refused ts ≡ threshold_rows ts 0
-unfolding faults refusal
+abbrev threshold_rows : List ℕ → Option Refusal → Option Refusal
+threshold_rows ts rest = four (eqb (length ts) 0) (ltb 3 (length ts)) (ltb 1 (length ts) && ltb (get_or ts 0 0) (get_or ts 1 0)) (ltb 2 (length ts) && ltb (get_or ts 1 0) (get_or ts 2 0)) rest
+
+thresholds_are : (ts : List ℕ) → refused ts ≡ threshold_rows ts None
 thresholds_are [] = refl
 thresholds_are (a ∷ []) = rw (le-ltb a a (omega arith))
 thresholds_are (a ∷ (b ∷ [])) = rw (le-ltb b b (omega arith))
@@ -41,62 +42,66 @@ thresholds_are (a ∷ (b ∷ (c ∷ (d ∷ ts)))) =
     rw (ne_eqb l 0 (λ e. omega arith), lt-ltb 3 l (omega arith))
 
 -- Rows before others.
-before : (a b c d : Bool) (rest : ℕ) → cond a 1 (cond b 2 (cond c 3 (cond d 4 rest))) ≡ cond (eqb (cond a 1 (cond b 2 (cond c 3 (cond d 4 0)))) 0) rest (cond a 1 (cond b 2 (cond c 3 (cond d 4 0))))
+abbrev or_else : Option Refusal → Option Refusal → Option Refusal
+or_else None rest = rest
+or_else (Some row) rest = Some row
+
+before : (a b c d : Bool) (rest : Option Refusal) → four a b c d rest ≡ or_else (four a b c d None) rest
 before true b c d rest = refl
 before false true c d rest = refl
 before false false true d rest = refl
 before false false false true rest = refl
 before false false false false rest = refl
 
--- What is printed, by the number.
-data Outcome (number : ℕ) (text : List ℕ) : Type 0 where
-  refused_by : (k : ℕ) → number ≡ suc k → text ≡ refused_text (suc k) → Outcome number text
-  passed : number ≡ 0 → Printed text → Outcome number text
+-- What is printed, by the row that refuses.
+data Outcome (first : Option Refusal) (text : List ℕ) : Type 0 where
+  refused_by : (row : Refusal) → first ≡ Some row → text ≡ refused_text (number_of row) → Outcome first text
+  passed : first ≡ None → Printed text → Outcome first text
 
 module _ (bytes : List ℕ) (small : IsBytes bytes) where
   abbrev fs : List Field
   fs = whole_fields bytes
 
   abbrev ts : List ℕ
-  ts = words32 (value_of 0x01 fs)
+  ts = words32 (value 0x01 fs)
 
   no_molecule : accepted bytes ≡ false → Outcome (line_refused bytes) (text_of bytes)
-  unfolding line_faults molecule_faults refusal text_of decoded_text decoded
-  no_molecule a = refused_by 12 (rw a) (rw a)
+  unfolding line_faults molecule_faults text_of decoded
+  no_molecule a = refused_by Broken (rw a) (rw a)
 
   module _ (a : accepted bytes ≡ true) where
-    abbrev m : Molecule
-    m = molecule (length bytes) fs
+    abbrev m : MoleculeParts
+    m = molecule bytes fs
 
-    is_molecule : decoded bytes ≡ Of m
+    is_molecule : decoded bytes ≡ Ok m
     unfolding decoded
     is_molecule = rw a
 
     x : EncodesMolecule bytes fs
     x = (only bytes m small is_molecule).0
 
-    abbrev others : ℕ
+    abbrev others : Option Refusal
     others = own bytes fs m x is_molecule
 
-    number_is : line_refused bytes ≡ cond (eqb (refused ts) 0) others (refused ts)
-    unfolding line_faults molecule_faults refusal
-    number_is =
-        rw a
-        (before (eqb (length ts) 0) (ltb 3 (length ts)) (ltb 1 (length ts) && ltb (get_or ts 0 0) (get_or ts 1 0)) (ltb 2 (length ts) && ltb (get_or ts 1 0) (get_or ts 2 0)) others
-        ∙ ap (λ (r : ℕ). cond (eqb r 0) others r) (sym (thresholds_are ts)))
+    rows_are : line_refused bytes ≡ threshold_rows (words32 (unwrap_or (value_of 0x01 fs) [])) others
+    unfolding line_faults molecule_faults
+    rows_are = rw a
 
-    by_numbers : (r o : ℕ) → refused ts ≡ r → others ≡ o → Outcome (line_refused bytes) (decoded_text bytes (Of m))
-    unfolding decoded_text
-    by_numbers (suc k) o hr ho =
-        refused_by k (number_is ∙ ap (λ (r : ℕ). cond (eqb r 0) others r) hr ∙ ap (λ (b : Bool). cond b others (suc k)) (ne_eqb (suc k) 0 (λ e. omega arith)))
-        (by_thresholds bytes fs m x is_molecule k hr)
-    by_numbers zero (suc k) hr ho =
-        refused_by k (number_is ∙ ap (λ (r : ℕ). cond (eqb r 0) others r) hr ∙ ho) (by_rows bytes fs m x is_molecule hr k ho)
-    by_numbers zero zero hr ho = passed (number_is ∙ ap (λ (r : ℕ). cond (eqb r 0) others r) hr ∙ ho) (by_record bytes fs m x is_molecule hr ho)
+    row_is : line_refused bytes ≡ or_else (refused ts) others
+    row_is =
+        rows_are
+        ∙ ap (λ (v : List ℕ). threshold_rows (words32 v) others) (sym (same_value (value_of 0x01 fs)))
+        ∙ before (eqb (length ts) 0) (ltb 3 (length ts)) (ltb 1 (length ts) && ltb (get_or ts 0 0) (get_or ts 1 0)) (ltb 2 (length ts) && ltb (get_or ts 1 0) (get_or ts 2 0)) others
+        ∙ ap (λ (r : Option Refusal). or_else r others) (sym (thresholds_are ts))
+
+    by_row : (r o : Option Refusal) → refused ts ≡ r → others ≡ o → Outcome (line_refused bytes) (decoded_text (Ok m))
+    by_row (Some row) o hr ho = refused_by row (row_is ∙ ap (λ (r : Option Refusal). or_else r others) hr) (by_thresholds bytes fs m x is_molecule row hr)
+    by_row None (Some row) hr ho = refused_by row (row_is ∙ ap (λ (r : Option Refusal). or_else r others) hr ∙ ho) (by_rows bytes fs m x is_molecule hr row ho)
+    by_row None None hr ho = passed (row_is ∙ ap (λ (r : Option Refusal). or_else r others) hr ∙ ho) (by_record bytes fs m x is_molecule hr ho)
 
     a_molecule : Outcome (line_refused bytes) (text_of bytes)
     unfolding text_of
-    a_molecule = rw is_molecule (by_numbers (refused ts) others refl refl)
+    a_molecule = rw is_molecule (by_row (refused ts) others refl refl)
 
   outcome : Outcome (line_refused bytes) (text_of bytes)
   outcome = go (accepted bytes) refl
@@ -105,24 +110,29 @@ module _ (bytes : List ℕ) (small : IsBytes bytes) where
       go true a = a_molecule a
       go false a = no_molecule a
 
-said_so : {number : ℕ} {text : List ℕ} (n : ℕ) → Outcome number text → text ≡ refused_text n → (number ≡ n) × (0 < n)
-said_so n (refused_by k number text) e =
-    let same : suc k ≡ n = same_number (suc k) n (sym text ∙ e) in
-    (number ∙ same, omega arith)
-said_so n (passed number text) e = absurd (not_printed n e text)
+said_so : {first : Option Refusal} {text : List ℕ} (n : ℕ) → Outcome first text → text ≡ refused_text n → option_map number_of first ≡ Some n
+said_so n (refused_by row is text) e =
+    let same : number_of row ≡ n = same_number (number_of row) n (sym text ∙ e) in
+    ap (option_map number_of) is ∙ ap Some same
+said_so n (passed is text) e = absurd (not_printed n e text)
 
-so_said : {number : ℕ} {text : List ℕ} (n : ℕ) → Outcome number text → number ≡ n → 0 < n → text ≡ refused_text n
-so_said n (refused_by k number text) e some = text ∙ ap refused_text (sym number ∙ e)
-so_said n (passed number text) e some =
-    let no : ⊥ = omega arith in
-    absurd no
+so_said : {first : Option Refusal} {text : List ℕ} (n : ℕ) → Outcome first text → option_map number_of first ≡ Some n → text ≡ refused_text n
+so_said n (refused_by row is text) e =
+    let some : ◌≡◌ {A = Option ℕ} (Some (number_of row)) (Some n) = sym (ap (option_map number_of) is) ∙ e in
+    let same : number_of row ≡ n = cc in
+    text ∙ ap refused_text same
+so_said n (passed is text) e =
+    let no : ◌≡◌ {A = Option ℕ} None (Some n) = sym (ap (option_map number_of) is) ∙ e in
+    absurd cc
 
 pub refuses : Refuses
-refuses bytes n small = (said_so n (outcome bytes small), λ h. so_said n (outcome bytes small) h.0 h.1)
+refuses bytes n small = (said_so n (outcome bytes small), λ h. so_said n (outcome bytes small) h)
 
 pub otherwise : Otherwise
 otherwise bytes small e = go (outcome bytes small)
   where
     go : Outcome (line_refused bytes) (text_of bytes) → Printed (text_of bytes)
-    go (refused_by k number text) = let no : ⊥ = omega arith in absurd no
-    go (passed number text) = text
+    go (refused_by row is text) =
+        let no : ◌≡◌ {A = Option Refusal} None (Some row) = sym e ∙ is in
+        absurd cc
+    go (passed is text) = text

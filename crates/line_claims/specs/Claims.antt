@@ -6,14 +6,14 @@
 --                   the molecule has, and there is no 13 after the thresholds
 --     TheReads      the reads of a molecule are its fields 30, in order, flags and bases, and no others
 -- Proved in proofs/Refuses.antt and proofs/Molecule.antt.
-use Rattle.std.specs.Prelude.{◌≡◌, ◌↔◌, ℕ, ◌+◌, ◌-◌, ◌/◌, ◌<◌, Bool, cond, not, ◌&&◌, ◌||◌, List, [], ◌∷◌, map, eqb, ltb, length, get_or}
-use Rattle.refusals.specs.Refusal.{Fault, ◌if◌, Broken, NoThresholds, TooManyThresholds, XyAboveTotal, YxAboveXy, TooLong, Ragged, TooManyReads, too_long, ragged, too_many, refusal}
+use Rattle.std.specs.Prelude.{Option, Some, None, Ok, unwrap_or, option_map, ◌≡◌, ◌↔◌, ℕ, ◌+◌, ◌-◌, ◌/◌, Bool, cond, not, ◌&&◌, ◌||◌, List, [], ◌∷◌, map, eqb, ltb, length, get_or}
+use Rattle.refusals.specs.declared.Refusal.{Refusal}
+use Rattle.refusals.specs.declared.Refusal.TheVariants.{Broken, NoThresholds, TooManyThresholds, XyAboveTotal, YxAboveXy, TooLong, Ragged, TooManyReads}
+use Rattle.refusals.specs.Refusal.{Fault, ◌if◌, number_of, too_long, ragged, too_many, refused}
 use Rattle.byte_numbers.specs.Bytes.{words32}
 use Rattle.fields.specs.Encoding.{Field, IsBytes, whole_fields}
-use Rattle.molecule_encoding.specs.Format.{has, accepted, decoded, value_of, value_at}
+use Rattle.molecule_encoding.specs.Format.{MoleculeParts, has, accepted, decoded, value_of}
 use Rattle.molecule_encoding.specs.Claims.{with_tag}
-use Rattle.molecule_encoding.specs.declared.Molecule.{Molecule}
-use Rattle.molecule_encoding.specs.declared.Decoded.TheVariants.{Of}
 use Rattle.molecule_reads.specs.Run.{reads_of}
 use Rattle.molecule_reads.specs.Claims.{said, shown}
 use Rattle.metrics_bits.specs.declared.MetricsBits.{MetricsBits}
@@ -23,7 +23,7 @@ use Rattle.line_molecule.specs.Line.{text_of}
 
 -- How many bytes the value of a tag has: none where no field has the tag.
 abbrev pub size : ℕ → List Field → ℕ
-size tag fs = length (value_of tag fs)
+size tag fs = length (unwrap_or (value_of tag fs) [])
 
 -- How many positions each array of a strand has, whose first tag is given: a byte a position for bases and qualities, two for depths
 -- and errors, and nine for the evidence behind an annotation's pattern, which counts where there is an annotation.
@@ -50,15 +50,15 @@ molecule_faults ts fs =
 -- The rows that are tested of some bytes: that they are a molecule, and then these of its fields. What `accepted` is, both ways, is
 -- said in molecule_encoding's claims.
 unfoldable pub line_faults : List ℕ → List Fault
-line_faults bytes = (Broken if not (accepted bytes)) ∷ molecule_faults (words32 (value_of 0x01 (whole_fields bytes))) (whole_fields bytes)
+line_faults bytes = (Broken if not (accepted bytes)) ∷ molecule_faults (words32 (unwrap_or (value_of 0x01 (whole_fields bytes)) [])) (whole_fields bytes)
 
--- The number of the first that is met, by the table's one order; 0 where none is.
-abbrev pub line_refused : List ℕ → ℕ
-line_refused bytes = refusal (line_faults bytes)
+-- The first that is met, by the table's one order, if any is.
+abbrev pub line_refused : List ℕ → Option Refusal
+line_refused bytes = refused (line_faults bytes)
 
 -- The text for some bytes is a refusal exactly where a row is met, and is that of the first one.
 abbrev pub Refuses : Type 0
-Refuses = (bytes : List ℕ) (n : ℕ) → IsBytes bytes → text_of bytes ≡ refused_text n ↔ (line_refused bytes ≡ n) × (0 < n)
+Refuses = (bytes : List ℕ) (n : ℕ) → IsBytes bytes → text_of bytes ≡ refused_text n ↔ option_map number_of (line_refused bytes) ≡ Some n
 
 -- A text that is `none`, or the header and the line of a record.
 pub data Printed (text : List ℕ) : Type 0 where
@@ -67,12 +67,12 @@ pub data Printed (text : List ℕ) : Type 0 where
 
 -- Otherwise it is one of these.
 abbrev pub Otherwise : Type 0
-Otherwise = (bytes : List ℕ) → IsBytes bytes → line_refused bytes ≡ 0 → Printed (text_of bytes)
+Otherwise = (bytes : List ℕ) → IsBytes bytes → line_refused bytes ≡ None → Printed (text_of bytes)
 
 -- The reads that duplexline counts are the molecule's fields 30.
 abbrev pub TheReads : Type 0
 TheReads =
-    (bytes : List ℕ) (m : Molecule)
+    (bytes : List ℕ) (m : MoleculeParts)
     → IsBytes bytes
-    → decoded bytes ≡ Of m
-    → map (shown (value_at bytes m.reads)) (reads_of (value_at bytes m.reads)) ≡ map said (with_tag 0x30 (whole_fields bytes))
+    → decoded bytes ≡ Ok m
+    → map (shown (unwrap_or m.reads [])) (reads_of (unwrap_or m.reads [])) ≡ map said (with_tag 0x30 (whole_fields bytes))

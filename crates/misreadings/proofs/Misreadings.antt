@@ -2,35 +2,26 @@
 use mathlib.Core.Path.{refl}
 use lib.Ieee.{of_int, round, div, to_bits}
 use Rattle.lists.specs.Count.{count_if, count_of}
-use Rattle.lists.specs.Output.{unless, answer}
 use Rattle.lists.specs.Part.{leaves, only_if}
 use Rattle.lists.specs.Table.{tabulate}
-use Rattle.refusals.specs.Refusal.{refusal}
 use Rattle.numbers.specs.Numbers.{saturating_add}
 use Rattle.dna.specs.Dna.{upper}
 use Rattle.phred.specs.Phred.{capped_quality}
 use Rattle.flags.specs.Flags.{is_set}
 use Rattle.rates.specs.Rate.{rate_of}
-use Rattle.caller.specs.Short.{short, short_of}
-use Rattle.methylation.specs.Methylation.{pattern_of_flags}
 use Rattle.duplex_molecule.specs.Molecule.{is_error, molecule_call, ct_input, call_at}
 use Rattle.duplex_position.specs.Combination.{agreed, disagreed, masked, uncalled}
 use Rattle.duplex_errors.specs.Errors.{agreeing, disagreeing}
 use Rattle.duplex_call.specs.Annotated.{combined, estimated_uncalled, estimated, expected}
 use Rattle.duplex_arrays.specs.Positions.{combined_bases, estimates, combined_errors}
 use Rattle.source_reads.specs.Reads.{read_leaves, reaches, read_error, read_errors}
-use Rattle.duplex_min_reads.specs.MinReads.{faults, reaches_all}
-use Rattle.duplex_reads.specs.Reads.{gate}
-use Rattle.duplex_gate.specs.ConsensusGate.{largest_within, consensus_gate}
 use Rattle.duplex_depths.specs.Depths.{combined_depths}
-use Rattle.duplex_metrics.specs.Metrics.{capped, strand_figures, record_depth, record_depths, record_figures, record_no_calls, metrics_record, metrics_faults, metrics_of}
-use Rattle.metrics_bits.specs.Bits.{in_bits}
-use Rattle.duplex_kind.specs.Kind.{shorter_present, some_depth, kind_by}
+use Rattle.duplex_metrics.specs.Metrics.{capped, strand_figures, record_depth, record_depths, record_figures, record_no_calls}
 use Rattle.duplex_consensus.specs.Consensus.{list_errors}
 use Rattle.misreadings.specs.Misreadings.{Depths, Figures, Estimates, UnmaskedBase, ReadsAtCalls}
 
 pub depths : Depths
-unfolding record_depth short combined_depths tabulate saturating_add consensus_gate gate largest_within faults reaches_all refusal answer unless
+unfolding record_depth combined_depths tabulate saturating_add
 depths = record {
   two_at_the_cap = refl;
   one_above_the_cap = refl;
@@ -40,7 +31,7 @@ depths = record {
 }
 
 pub figures : Figures
-unfolding count_of count_if only_if tabulate metrics_of metrics_record metrics_faults strand_figures record_figures record_no_calls record_depths record_depth capped short rate_of of_int round div to_bits in_bits refusal answer unless
+unfolding count_of count_if only_if tabulate strand_figures record_figures record_no_calls record_depths record_depth capped rate_of of_int round div to_bits
 figures = record {
   no_calls_is = refl;
   padded_ends = refl;
@@ -52,7 +43,7 @@ figures = record {
 }
 
 pub estimates_by_winner : Estimates
-unfolding ct_input shorter_present some_depth kind_by combined_errors estimates tabulate estimated estimated_uncalled call_at molecule_call upper agreeing disagreeing short_of short
+unfolding ct_input combined_errors estimates tabulate estimated estimated_uncalled call_at molecule_call upper agreeing disagreeing
 estimates_by_winner = record {
   a_wins = refl;
   b_wins = refl;
@@ -61,7 +52,7 @@ estimates_by_winner = record {
 }
 
 pub unmasked_base : UnmaskedBase
-unfolding ct_input shorter_present some_depth kind_by combined_errors combined_bases tabulate combined call_at uncalled masked agreed disagreed capped_quality list_errors read_errors read_error reaches read_leaves leaves count_of count_if expected is_set is_error short
+unfolding ct_input combined_errors combined_bases tabulate combined call_at uncalled masked agreed disagreed capped_quality list_errors read_errors read_error reaches read_leaves leaves count_of count_if expected is_set is_error
 unmasked_base = record {
   masked = refl;
   masked_error = refl;
@@ -71,7 +62,7 @@ unmasked_base = record {
 }
 
 pub reads_at_calls : ReadsAtCalls
-unfolding ct_input shorter_present some_depth kind_by combined_errors tabulate call_at molecule_call upper uncalled masked disagreed capped_quality list_errors read_errors read_error reaches read_leaves leaves count_of count_if expected is_set is_error short pattern_of_flags
+unfolding ct_input combined_errors tabulate call_at molecule_call upper uncalled masked disagreed capped_quality list_errors read_errors read_error reaches read_leaves leaves count_of count_if expected is_set is_error
 reads_at_calls = record {
   c_to_t_first = refl;
   c_to_t_last = refl;

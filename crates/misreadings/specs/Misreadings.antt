@@ -1,33 +1,30 @@
 -- Wrong readings of document 01, each shut out by a value. A contract says that the code gives what the definition says; it says nothing
 -- where both are changed in the same wrong way. These rows do: they are the definitions' own values, worked out by hand. With P1 to P12
 -- (crates/positions) and the papers' values (crates/papers) this is the page to read first.
-use Rattle.std.specs.Prelude.{◌≡◌, true, false, [], ◌∷◌, ℕ}
+use Rattle.std.specs.Prelude.{None, Some, Option, Ok, ◌≡◌, true, false, [], ◌∷◌, ℕ}
 use Rattle.dna.specs.Dna.{letter_a, letter_c, letter_g, letter_n, letter_t, lower_n}
 use Rattle.methylation.specs.Methylation.{pattern_of_flags}
-use Rattle.methylation.specs.declared.Annotation.TheVariants.{Absent, Of}
-use Rattle.methylation.specs.declared.Annotation.{Annotation}
 use Rattle.methylation.specs.declared.ConversionPattern.TheVariants.{CToT, GToA}
 use Rattle.vanilla_caller.specs.Strand.{arrays}
 use Rattle.duplex_molecule.specs.Molecule.{ct_input}
 use Rattle.duplex_molecule.specs.declared.CtInput.TheVariants.{IsA, IsB}
 use Rattle.duplex_call.specs.Annotated.{expected}
 use Rattle.source_reads.specs.declared.SourceRead.{SourceRead}
-use Rattle.duplex_reads.specs.declared.Gate.TheVariants.{Kept, Below}
 use Rattle.duplex_gate.specs.ConsensusGate.{consensus_gate}
 use Rattle.duplex_depths.specs.Depths.{combined_depths}
 use Rattle.duplex_metrics.specs.Metrics.{Input, input, record_depth, record_no_calls, no_calls, metrics_of}
 use Rattle.metrics_bits.specs.Bits.{metrics_words}
-use Rattle.metrics_bits.specs.declared.MetricsWords.TheVariants.{Of as Of-bits}
 use Rattle.duplex_outputs.specs.Outputs.{RecordArrays}
 use Rattle.duplex_strands.specs.Combine.{uncounted}
 use Rattle.duplex_kind.specs.Kind.{Strand, strand, kind_of}
 use Rattle.duplex_record.specs.Record.{record_arrays}
 use Rattle.duplex_consensus.specs.Consensus.{list_errors}
+use Rattle.methylation.specs.declared.ConversionPattern.{ConversionPattern}
 
 -- ---- Strands, reads and metrics to state the rows of
 
 -- A strand of one position that is there: its annotation, base, quality, depth and errors.
-abbrev pub one : Annotation → ℕ → ℕ → ℕ → ℕ → Strand
+abbrev pub one : Option ConversionPattern → ℕ → ℕ → ℕ → ℕ → Strand
 one annotation base qual depth errors = strand true annotation (arrays (base ∷ []) (qual ∷ []) (depth ∷ []) (errors ∷ []) (0 ∷ []) (0 ∷ []) (0 ∷ []))
 
 -- The record that two strands make without a list of reads.
@@ -44,13 +41,13 @@ with_read a b flags base =
 
 -- A strand of depth 1 that is not annotated, and one of pattern C to T or G to A.
 abbrev pub plain : ℕ → ℕ → Strand
-plain base qual = one Absent base qual 1 0
+plain base qual = one None base qual 1 0
 
 abbrev pub ct : ℕ → ℕ → Strand
-ct base qual = one (Of CToT) base qual 1 0
+ct base qual = one (Some CToT) base qual 1 0
 
 abbrev pub ga : ℕ → ℕ → Strand
-ga base qual = one (Of GToA) base qual 1 0
+ga base qual = one (Some GToA) base qual 1 0
 
 -- What a metrics call is given: depths 40,000 and 3 with errors 2 and 1, depths 2 and 5 with errors 0 and 1, and a record of the bases
 -- Nn with errors 40,000 and 1.
@@ -67,8 +64,8 @@ pub record Depths : Type 0 where
   -- The depths of `combined_depths` are another thing: not capped, their sum held to 65,535.
   pub combined_depths_is : combined_depths 2 (40000 ∷ 40000 ∷ []) (1 ∷ 40000 ∷ []) ≡ 40001 ∷ 65535 ∷ []
   -- "Capping depths in the gate": 40,000 reaches a threshold of 40,000, and 39,999 does not.
-  pub gate_reached : consensus_gate 1 (40000 ∷ []) [] (40000 ∷ 40000 ∷ 0 ∷ []) ≡ Kept
-  pub gate_missed : consensus_gate 1 (39999 ∷ []) [] (40000 ∷ 40000 ∷ 0 ∷ []) ≡ Below
+  pub gate_reached : consensus_gate 1 (40000 ∷ []) [] (40000 ∷ 40000 ∷ 0 ∷ []) ≡ Ok true
+  pub gate_missed : consensus_gate 1 (39999 ∷ []) [] (40000 ∷ 40000 ∷ 0 ∷ []) ≡ Ok false
 
 -- ---- Metrics
 
@@ -88,7 +85,7 @@ pub record Figures : Type 0 where
   -- aE is 3 / 32,770, bE 1 / 7 and cE 32,768 / 32,777.
   pub ten_figures :
       metrics_words (metrics_of measured)
-      ≡ Of-bits (record {
+      ≡ Ok (record {
         aD = 32767;
         aM = 3;
         aE = 0x38bffd00;
@@ -106,11 +103,11 @@ pub record Figures : Type 0 where
 pub record Estimates : Type 0 where
   -- Where the bases differ: the winner's errors, and of the loser its depth minus its errors. A wins: 1 + 7 - 2.
   -- B wins: 2 + 10 - 1. At equal qualities A wins. With winner and loser exchanged the first would be 11 and the second 6.
-  pub a_wins : (unlisted (one Absent letter_a 33 10 1) (one Absent letter_c 30 7 2)).errors ≡ 6 ∷ []
-  pub b_wins : (unlisted (one Absent letter_a 30 10 1) (one Absent letter_c 33 7 2)).errors ≡ 11 ∷ []
-  pub a_wins_ties : (unlisted (one Absent letter_a 30 10 1) (one Absent letter_c 30 7 2)).errors ≡ 6 ∷ []
+  pub a_wins : (unlisted (one None letter_a 33 10 1) (one None letter_c 30 7 2)).errors ≡ 6 ∷ []
+  pub b_wins : (unlisted (one None letter_a 30 10 1) (one None letter_c 33 7 2)).errors ≡ 11 ∷ []
+  pub a_wins_ties : (unlisted (one None letter_a 30 10 1) (one None letter_c 30 7 2)).errors ≡ 6 ∷ []
   -- At a call there is no winner: 1 + 2.
-  pub call_adds : (unlisted (one (Of CToT) letter_t 30 10 1) (one (Of GToA) letter_c 40 7 2)).errors ≡ 3 ∷ []
+  pub call_adds : (unlisted (one (Some CToT) letter_t 30 10 1) (one (Some GToA) letter_c 40 7 2)).errors ≡ 3 ∷ []
 
 -- ---- Errors of a list of reads
 

@@ -20,7 +20,7 @@ use Rattle.decimal.proofs.Decimal.{Each, only_digits, value_decimal}
 use Rattle.methylation.specs.declared.ConversionPattern.{ConversionPattern}
 use Rattle.methylation.specs.declared.ConversionPattern.TheVariants.{CToT, GToA}
 use Rattle.methylation.specs.declared.MethylationMode.{MethylationMode}
-use Rattle.methylation_calls.specs.Calls.{is_tracked, is_called}
+use Rattle.methylation_calls.specs.Calls.{is_tracked}
 use Rattle.mm_ml.specs.Text.{places_below, letters, skips_from, group_text}
 use Rattle.mm_ml.specs.Tags.{Annotated, called_at, skips, all_calls}
 use Rattle.mm_reading.specs.Reading.{numbers, skips_of, called_from, read_calls, ReadsBack}
@@ -173,12 +173,12 @@ uncalled_between called (suc n) q h g = go (called n) refl h (uncalled_between c
 
 -- The reader finds the letter that the pattern tracks, and the skip counts.
 group_read : (pattern : ConversionPattern) (bases : List ℕ) (n : ℕ) (ns : List ℕ) → read_calls (group_text pattern (n ∷ ns)) bases ≡ called_from (is_tracked pattern) 0 bases (n ∷ ns)
-unfolding read_calls group_text is_tracked
+unfolding read_calls group_text
 group_read CToT bases n ns = ap (called_from (is_tracked CToT) 0 bases) (skips_read CToT n ns)
 group_read GToA bases n ns = ap (called_from (is_tracked GToA) 0 bases) (skips_read GToA n ns)
 
 only_tracked : (s : Annotated) (i : ℕ) → called_at s i ≡ true → is_tracked s.pattern (get_or s.bases i 0) ≡ true
-unfolding called_at is_called
+unfolding called_at
 only_tracked s i e = (both_hold _ _ e).0
 
 positions_read : (s : Annotated) (ps : List ℕ) → (length ps ≡ 0 → ⊥) → Rising (is_tracked s.pattern) s.bases 0 ps → read_calls (group_text s.pattern (skips s ps)) s.bases ≡ ps

@@ -13,23 +13,20 @@ use Rattle.lists.specs.Count.{count_of}
 use Rattle.lists.specs.Part.{only_if}
 use Rattle.lists.specs.Table.{tabulate}
 use Rattle.lists.proofs.Count.{count_cons, counts_few}
-use Rattle.refusals.specs.Refusal.{Ragged}
 use Rattle.refusals.proofs.Condition.{neither, not_ragged}
-use Rattle.refusals.proofs.Refusal.{passed}
+use Rattle.refusals.proofs.Claims.{none_lost}
 use Rattle.dna.specs.Dna.{letter_n}
-use Rattle.caller.specs.Short.{short}
-use Rattle.methylation.specs.declared.Annotation.{Annotation}
-use Rattle.vanilla_caller.specs.Strand.{Arrays, lengths, strand_ragged}
+use Rattle.vanilla_caller.specs.Strand.{Arrays, lengths}
 use Rattle.vanilla_padded.specs.Padding.{Padding, pad_to, padded_faults, padded_refused}
-use Rattle.duplex_metrics.specs.Metrics.{Input, no_calls, record_depth, record_depths, record_no_calls, is_no_call, metrics_record, metrics_of}
-use Rattle.duplex_metrics.specs.declared.Metrics.TheVariants.{Of}
+use Rattle.duplex_metrics.specs.Metrics.{Input, no_calls, record_depth, record_depths, record_no_calls, is_no_call, metrics_of}
 use Rattle.duplex_metrics.specs.declared.MetricsRecord.{MetricsRecord}
 use Rattle.duplex_metrics.proofs.Returned.{record_is}
 use Rattle.padding_claims.specs.NoCalls.{alone, alone_padded, PaddingIsNoNoCall, NoneWithoutDepth}
+use Rattle.std.proofs.Common.{Ok, None, Option}
+use Rattle.methylation.specs.declared.ConversionPattern.{ConversionPattern}
 
 -- nc of a record that was returned.
-nc_is : (x : Input) (r : MetricsRecord) → metrics_of x ≡ Of r → r.nc ≡ no_calls x
-unfolding metrics_record
+nc_is : (x : Input) (r : MetricsRecord) → metrics_of x ≡ Ok r → r.nc ≡ no_calls x
 nc_is x r e = ap (λ (m : MetricsRecord). m.nc) (record_is x r e)
 
 -- nc of a strand alone, one position more in front.
@@ -41,7 +38,7 @@ no_call_cons d base ds bases = count_cons (λ (met : Bool). met) _ _
 
 -- One that has no depth counts for nothing.
 nothing_more : (base : ℕ) (ds bases : List ℕ) → record_no_calls (0 ∷ ds) [] (base ∷ bases) ≡ record_no_calls ds [] bases
-unfolding record_depth short
+unfolding record_depth
 nothing_more base ds bases = no_call_cons 0 base ds bases ∙ go (eqb base letter_n)
   where
     go : (b : Bool) → cond (b && false) (suc (record_no_calls ds [] bases)) (record_no_calls ds [] bases) ≡ record_no_calls ds [] bases
@@ -78,10 +75,9 @@ padded_no_calls n true v ds bases e = rw e (left_padded (n - length bases) v ds 
 padded_no_calls n false v ds bases e = rw e (right_padded (n - length bases) v ds bases e)
 
 -- A strand that `padded` takes has as many depths as bases.
-even : (annotation : Annotation) (s : Arrays) (p : Padding) (out : Arrays) → padded_refused annotation s p out ≡ 0 → length s.depths ≡ length s.bases
-unfolding padded_faults strand_ragged
+even : (annotation : Option ConversionPattern) (s : Arrays) (p : Padding) (out : Arrays) → padded_refused annotation s p out ≡ None → length s.depths ≡ length s.bases
 even annotation s p out e =
-    let ragged_none = (passed Ragged (padded_faults annotation (lengths s) p.new_length (lengths out)) refl e).0 in
+    let ragged_none = (none_lost (padded_faults annotation (lengths s) p.new_length (lengths out)) e).1.0 in
     (not_ragged (length s.bases) (length s.quals ∷ length s.depths ∷ length s.errors ∷ []) (neither _ _ ragged_none).0).1.0
 
 pub padding_is_no_no_call : PaddingIsNoNoCall

@@ -9,7 +9,7 @@ use borrow.Author.Tests.{ltb-true, ltb-false}
 use lib.Dec.{eqb, ltb}
 use lib.ListN.{get_or}
 use Rattle.methylation.specs.declared.MethylationMode.TheVariants.{EmSeq, Taps}
-use Rattle.methylation_calls.specs.Calls.{is_tracked, is_called, ml_of}
+use Rattle.methylation_calls.specs.Calls.{is_tracked, ml_of}
 use Rattle.mm_ml.specs.Tags.{Annotated, called_at}
 use Rattle.papers.specs.Papers.{MlByte}
 
@@ -25,11 +25,9 @@ byte count total h most = record {
 }
 
 pub ml_em_seq : (unconverted converted : ℕ) → 0 < unconverted + converted → MlByte (ml_of EmSeq unconverted converted) unconverted (unconverted + converted)
-unfolding ml_of
 ml_em_seq u c h = byte u (u + c) h (omega arith)
 
 pub ml_taps : (unconverted converted : ℕ) → 0 < unconverted + converted → MlByte (ml_of Taps unconverted converted) converted (unconverted + converted)
-unfolding ml_of
 ml_taps u c h = byte c (u + c) h (omega arith)
 
 -- The part that N is does not reach below the one that M is.
@@ -48,7 +46,7 @@ ml_only N M count total most n m = go (ltb count total) refl
         omega (arith, n.one all, m.one all)
 
 pub no_counts : (s : Annotated) (i : ℕ) → get_or s.unconverted i 0 + get_or s.converted i 0 ≡ 0 → called_at s i ≡ false
-unfolding called_at is_called
+unfolding called_at
 no_counts s i none = rw none (go (is_tracked s.pattern (get_or s.bases i 0)) (not (eqb (get_or s.marks i 0) 0)))
   where
     go : (tracked marked : Bool) → (tracked && (marked && false)) ≡ false

@@ -1,30 +1,23 @@
 -- The claims of specs/Papers.antt: the general ones by their laws, the others computed. Assumes nothing.
 use mathlib.Core.Path.{refl}
 use Rattle.lists.specs.Count.{count_if, count_of}
-use Rattle.lists.specs.Output.{unless, answer}
 use Rattle.lists.specs.Part.{only_if}
 use Rattle.lists.specs.Table.{tabulate}
-use Rattle.refusals.specs.Refusal.{refusal}
 use Rattle.dna.specs.Dna.{upper, same_letter}
 use Rattle.flags.specs.Flags.{is_set}
 use Rattle.decimal.specs.Decimal.{decimal_in, decimal, listed}
 use Rattle.decimal.proofs.Decimal.{value_decimal}
-use Rattle.caller.specs.Rate.{rate_faults}
-use Rattle.caller.specs.Short.{short}
-use Rattle.methylation_calls.specs.Calls.{is_tracked, is_called, ml_of}
-use Rattle.methylation_evidence.specs.Counts.{tag_count}
 use Rattle.mm_ml.specs.Tags.{called_at, calls, mm_text, ml_array}
 use Rattle.mm_ml.specs.Text.{places_below, letters, skips_from, group_text}
 use Rattle.mm_reading.specs.Reading.{numbers, skips_of, called_from, read_calls}
-use Rattle.duplex_min_reads.specs.MinReads.{faults, validated, single_strand, reaches_all}
-use Rattle.duplex_metrics.specs.Metrics.{capped, strand_figures, strand_metrics}
+use Rattle.duplex_metrics.specs.Metrics.{capped, strand_figures}
 use Rattle.papers.specs.Papers.{SamTags, Sam, Fgbio}
 use Rattle.papers.proofs.Decimal.{no_leading_zero}
 use Rattle.papers.proofs.Ml.{ml_em_seq, ml_taps, ml_only, no_counts}
 use Rattle.papers.proofs.Quality.{quality}
 
 pub sam_tags : SamTags
-unfolding tabulate count_of count_if only_if upper same_letter decimal decimal_in listed is_tracked is_called ml_of called_at calls mm_text ml_array places_below letters skips_from group_text numbers skips_of called_from read_calls
+unfolding tabulate count_of count_if only_if upper same_letter decimal decimal_in listed called_at calls mm_text ml_array places_below letters skips_from group_text numbers skips_of called_from read_calls
 sam_tags = record {
   ml_em_seq = ml_em_seq;
   ml_taps = ml_taps;
@@ -43,7 +36,7 @@ sam_tags = record {
 }
 
 pub sam : Sam
-unfolding is_set tag_count
+unfolding is_set
 sam = record {
   first = refl;
   first_77 = refl;
@@ -61,7 +54,7 @@ sam = record {
 }
 
 pub fgbio : Fgbio
-unfolding validated single_strand reaches_all faults refusal answer unless strand_metrics strand_figures capped short rate_faults
+unfolding strand_figures capped
 fgbio = record {
   two_values = refl;
   one_value = refl;

@@ -1,4 +1,5 @@
 -- The quality of two strands is at most 93. Assumes nothing.
+use Rattle.std.proofs.Common.{Option, Some, None}
 use mathlib.Core.Bool.{Bool, true, false, cond, ◌&&◌, ◌||◌}
 use Prim.Native.Nat.{ℕ, ◌+◌, ◌-◌, ◌≤◌}
 use native.Mathlib.Omega.{arith}
@@ -9,7 +10,6 @@ use Rattle.methylation.specs.Methylation.{pattern_bases}
 use Rattle.duplex_molecule.specs.Molecule.{call_at}
 use Rattle.duplex_molecule.specs.declared.CtInput.{CtInput}
 use Rattle.duplex_molecule.specs.declared.MoleculeCall.{MoleculeCall}
-use Rattle.duplex_molecule.specs.declared.MoleculeCall.TheVariants.{NoCall, Call}
 use Rattle.duplex_position.specs.Combination.{agreed, disagreed, masked, uncalled, called}
 use Rattle.duplex_position.specs.declared.Position.{Position}
 use Rattle.duplex_call.specs.Annotated.{carried_by_a, by_call, combined}
@@ -43,13 +43,13 @@ pub quality : (ct : CtInput) (a qa ma b qb mb : ℕ) → (combined ct a qa ma b 
 unfolding combined uncalled called
 quality ct a qa ma b qb mb = go (call_at ct a b)
   where
-    go : (call : MoleculeCall) → (by_call ct a qa ma b qb mb call).qual ≤ 93
-    go NoCall =
+    go : (call : Option MoleculeCall) → (by_call ct a qa ma b qb mb call).qual ≤ 93
+    go None =
         chosen (eqb a b) (masked a b a (agreed qa qb)) (masked a b (cond (ltb qa qb) b a) (disagreed qa qb))
         (most a b a (agreed qa qb) (agreed_most qa qb))
         (most a b (cond (ltb qa qb) b a) (disagreed qa qb) (disagreed_most qa qb))
-    go (Call pattern call confirmed) =
-        let from_a = carried_by_a ct pattern in
-        let alone = same_letter call (pattern_bases pattern).converted && eqb (cond from_a ma mb) 0 in
+    go (Some c) =
+        let from_a = carried_by_a ct c.pattern in
+        let alone = same_letter c.call (pattern_bases c.pattern).converted && eqb (cond from_a ma mb) 0 in
         let confirming = capped_quality (cond from_a qb qa) in
-        most a b confirmed (cond alone confirming (agreed qa qb)) (either alone confirming (agreed qa qb) (held (cond from_a qb qa)) (agreed_most qa qb))
+        most a b c.confirmed (cond alone confirming (agreed qa qb)) (either alone confirming (agreed qa qb) (held (cond from_a qb qa)) (agreed_most qa qb))

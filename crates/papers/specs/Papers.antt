@@ -1,7 +1,7 @@
 -- The values that the public papers define, and that ours are these: SAMtags (MM and ML), the SAM specification (FLAG and QUAL) and
 -- fgbio's page on CallDuplexConsensusReads (--min-reads and the caps). Each row is in the paper's own numbers, so that it also breaks
 -- where a definition and the code beside it are changed in the same wrong way. docs/DIFFERENCES.md has where ours departs.
-use Rattle.std.specs.Prelude.{◌≡◌, true, false, cond, List, [], ◌∷◌, ℕ, ◌+◌, ◌*◌, ◌%◌, ◌≤◌, ◌<◌, eqb, get_or}
+use Rattle.std.specs.Prelude.{Ok, ◌≡◌, true, false, cond, List, [], ◌∷◌, ℕ, ◌+◌, ◌*◌, ◌%◌, ◌≤◌, ◌<◌, eqb, get_or}
 use Rattle.lists.specs.Table.{tabulate}
 use Rattle.dna.specs.Dna.{letter_a, letter_c, letter_g}
 use Rattle.phred.specs.Phred.{max_phred}
@@ -19,12 +19,9 @@ use Rattle.duplex_molecule.specs.declared.CtInput.{CtInput}
 use Rattle.duplex_call.specs.Annotated.{combined}
 use Rattle.duplex_min_reads.specs.MinReads.{validated, single_strand, reaches_all}
 use Rattle.duplex_min_reads.specs.declared.MinReads.{MinReads}
-use Rattle.duplex_min_reads.specs.declared.Validated.TheVariants.{Thresholds}
-use Rattle.duplex_min_reads.specs.declared.SingleStrand.TheVariants.{Allowed, NotAllowed}
 use Rattle.duplex_reads.specs.Reads.{written_flags}
 use Rattle.duplex_reads.specs.declared.ReadType.TheVariants.{Fragment, R1, R2}
 use Rattle.duplex_metrics.specs.Metrics.{strand_metrics}
-use Rattle.duplex_metrics.specs.declared.StrandMetrics.TheVariants.{Of}
 
 -- ---- SAMtags
 
@@ -102,17 +99,17 @@ at_least total xy yx = record { total = total; xy = xy; yx = yx }
 
 pub record Fgbio : Type 0 where
   -- --min-reads: missing values repeat the last one given. 5 4 stands for 5 4 4, and 1 for 1 1 1.
-  pub two_values : validated (5 ∷ 4 ∷ []) ≡ Thresholds (at_least 5 4 4)
-  pub one_value : validated (1 ∷ []) ≡ Thresholds (at_least 1 1 1)
-  pub three_values : validated (5 ∷ 4 ∷ 3 ∷ []) ≡ Thresholds (at_least 5 4 3)
+  pub two_values : validated (5 ∷ 4 ∷ []) ≡ Ok (at_least 5 4 4)
+  pub one_value : validated (1 ∷ []) ≡ Ok (at_least 1 1 1)
+  pub three_values : validated (5 ∷ 4 ∷ 3 ∷ []) ≡ Ok (at_least 5 4 3)
   -- The first is for both strands together, the second for the better covered one, the third for the other, whichever strand that is.
   pub reached : reaches_all (at_least 5 4 1) 1 4 ≡ true
   pub total_missed : reaches_all (at_least 6 4 1) 1 4 ≡ false
   pub better_missed : reaches_all (at_least 5 4 1) 3 3 ≡ false
   pub other_missed : reaches_all (at_least 5 4 2) 4 1 ≡ false
   -- A molecule needs both strands unless the last value is 0.
-  pub both_needed : single_strand (1 ∷ []) ≡ NotAllowed
-  pub one_enough : single_strand (1 ∷ 1 ∷ 0 ∷ []) ≡ Allowed
+  pub both_needed : single_strand (1 ∷ []) ≡ Ok false
+  pub one_enough : single_strand (1 ∷ 1 ∷ 0 ∷ []) ≡ Ok true
   -- Depths and errors are capped at 32,767 at each position, before the largest, the smallest and the sums are taken: D, M and E's.
-  pub capped : strand_metrics (40000 ∷ 50000 ∷ 32768 ∷ []) (40000 ∷ 1 ∷ 0 ∷ []) ≡ Of (record { largest = 32767; smallest = 32767; depths = 98301; errors = 32768 })
-  pub below_the_cap : strand_metrics (40000 ∷ 2 ∷ 3 ∷ []) (0 ∷ 1 ∷ 32766 ∷ []) ≡ Of (record { largest = 32767; smallest = 2; depths = 32772; errors = 32767 })
+  pub capped : strand_metrics (40000 ∷ 50000 ∷ 32768 ∷ []) (40000 ∷ 1 ∷ 0 ∷ []) ≡ Ok (record { largest = 32767; smallest = 32767; depths = 98301; errors = 32768 })
+  pub below_the_cap : strand_metrics (40000 ∷ 2 ∷ 3 ∷ []) (0 ∷ 1 ∷ 32766 ∷ []) ≡ Ok (record { largest = 32767; smallest = 2; depths = 32772; errors = 32767 })

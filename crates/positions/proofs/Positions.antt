@@ -24,7 +24,7 @@ either true x = refl
 either false x = refl
 
 pub positions : Positions
-unfolding rate_of of_int round div to_bits capped_quality agreed disagreed masked uncalled upper same_letter molecule_call call_at called combined ml_of combined_errors estimates tabulate estimated estimated_uncalled agreeing disagreeing short_of short
+unfolding rate_of of_int round div to_bits capped_quality agreed disagreed masked uncalled upper same_letter molecule_call call_at called combined combined_errors estimates tabulate estimated estimated_uncalled agreeing disagreeing
 positions = record {
   p1 = refl;
   p2 = refl;

@@ -11,19 +11,18 @@ use lib.Dec.{eqb}
 use borrow.Author.Tests.{eqb-true}
 use Rattle.lists.specs.Every.{every}
 use Rattle.refusals.proofs.Condition.{both_hold}
-use Rattle.methylation.specs.declared.Annotation.{Annotation}
-use Rattle.methylation.specs.declared.Annotation.TheVariants.{Absent, Of}
 use Rattle.methylation.specs.declared.ConversionPattern.TheVariants.{CToT, GToA}
-use Rattle.duplex_molecule.specs.Molecule.{call_at, is_call_of}
+use Rattle.duplex_molecule.specs.Molecule.{call_at, is_call_of, same_pattern}
 use Rattle.duplex_molecule.specs.declared.CtInput.TheVariants.{IsA}
 use Rattle.duplex_molecule.specs.declared.MoleculeCall.{MoleculeCall}
-use Rattle.duplex_molecule.specs.declared.MoleculeCall.TheVariants.{NoCall, Call}
 use Rattle.duplex_call.proofs.Calls.{c_test, g_test, c_to_t, g_to_a}
 use Rattle.duplex_reason.specs.Reason.{is_n, called_by, carries, is_called, others_alone, disagree, difference, holds, reasons, first_of, reason_at, is_reason}
 use Rattle.duplex_reason.specs.declared.NoCallReason.{NoCallReason}
-use Rattle.duplex_reason.specs.declared.NoCallReason.TheVariants.{Refused, Outside, SingleStrand, Called, ANoCall, BNoCall, BothNoCall, EqualQualities, CloseQualities, LowSum, LowConfirming}
+use Rattle.duplex_reason.specs.declared.NoCallReason.TheVariants.{Outside, SingleStrand, Called, ANoCall, BNoCall, BothNoCall, EqualQualities, CloseQualities, LowSum, LowConfirming}
 use Rattle.duplex_reason.specs.declared.Shown.{Shown}
 use Rattle.reason_claims.specs.Reasons.{FirstThatHolds, by_n, OnlyOneFits}
+use Rattle.std.proofs.Common.{None, Some, Option}
+use Rattle.methylation.specs.declared.ConversionPattern.{ConversionPattern}
 
 off : (p : Bool) → not p ≡ true → p ≡ false
 off true h = sym h
@@ -160,7 +159,6 @@ module _ (a b : Shown) where
   only_n CloseQualities e h = absurd (true≢false (sym e))
   only_n LowSum e h = absurd (true≢false (sym e))
   only_n LowConfirming e h = absurd (true≢false (sym e))
-  only_n (Refused number) e h = absurd (true≢false (sym e))
   only_n Outside e h = absurd (true≢false (sym e))
   only_n SingleStrand e h = absurd (true≢false (sym e))
   only_n Called e h = absurd (true≢false (sym e))
@@ -183,7 +181,6 @@ module _ (a b : Shown) where
       let counts : alone ≡ true = is_alone (others_alone a b) (others_alone b a) _ _ h in
       let called : is_called a b ≡ true = called_if (carries a b) (carries b a) _ _ counts in
       rw (no_disagreement (is_called a b) (eqb a.base b.base) called, counts)
-  only_other (Refused number) e h = absurd (true≢false (sym h))
   only_other Outside e h = absurd (true≢false (sym h))
   only_other SingleStrand e h = absurd (true≢false (sym h))
   only_other Called e h = absurd (true≢false (sym h))
@@ -221,7 +218,6 @@ n_answer a b EqualQualities e h = absurd (true≢false (sym e))
 n_answer a b CloseQualities e h = absurd (true≢false (sym e))
 n_answer a b LowSum e h = absurd (true≢false (sym e))
 n_answer a b LowConfirming e h = absurd (true≢false (sym e))
-n_answer a b (Refused number) e h = absurd (true≢false (sym e))
 n_answer a b Outside e h = absurd (true≢false (sym e))
 n_answer a b SingleStrand e h = absurd (true≢false (sym e))
 n_answer a b Called e h = absurd (true≢false (sym e))
@@ -231,25 +227,28 @@ unfolding reason_at
 only_one_fits = record { holds_true = λ a b h. held a b reasons h; one = one_fits; n_first = n_answer }
 
 -- One call is not of both patterns.
-of_one : (x : MoleculeCall) → is_call_of (Of CToT) x ≡ true → is_call_of (Of GToA) x ≡ false
+of_one : (x : Option MoleculeCall) → is_call_of (Some CToT) x ≡ true → is_call_of (Some GToA) x ≡ false
 unfolding is_call_of
-of_one NoCall h = refl
-of_one (Call CToT call confirmed) h = refl
-of_one (Call GToA call confirmed) h = absurd (true≢false (sym h))
+of_one None h = refl
+of_one (Some call) h = go call.pattern h
+  where
+    go : (p : ConversionPattern) → same_pattern CToT p ≡ true → same_pattern GToA p ≡ false
+    go CToT h = refl
+    go GToA h = absurd (true≢false (sym h))
 
 -- The two tests of a call never both hold.
 pub one_test : (ct ga : ℕ) → c_test ct ga ≡ true → g_test ct ga ≡ false
 one_test ct ga h = g_to_a IsA ct ga ∙ of_one (call_at IsA ct ga) (sym (c_to_t IsA ct ga) ∙ h)
 
-pub exclusive : (p q : Annotation) (base other : ℕ) → called_by p q base other ≡ true → called_by q p other base ≡ false
+pub exclusive : (p q : Option ConversionPattern) (base other : ℕ) → called_by p q base other ≡ true → called_by q p other base ≡ false
 unfolding called_by
-exclusive Absent q base other h = absurd (true≢false (sym h))
-exclusive (Of p) Absent base other h = absurd (true≢false (sym h))
-exclusive (Of CToT) (Of CToT) base other h = refl
-exclusive (Of CToT) (Of GToA) base other h = one_test base other h
-exclusive (Of GToA) (Of CToT) base other h = go (c_test other base) refl
+exclusive None q base other h = absurd (true≢false (sym h))
+exclusive (Some p) None base other h = absurd (true≢false (sym h))
+exclusive (Some CToT) (Some CToT) base other h = refl
+exclusive (Some CToT) (Some GToA) base other h = one_test base other h
+exclusive (Some GToA) (Some CToT) base other h = go (c_test other base) refl
   where
     go : (t : Bool) → c_test other base ≡ t → t ≡ false
     go true e = absurd (true≢false (sym h ∙ one_test other base e))
     go false e = refl
-exclusive (Of GToA) (Of GToA) base other h = refl
+exclusive (Some GToA) (Some GToA) base other h = refl

@@ -9,12 +9,9 @@ use lib.Dec.{eqb, leb, ltb}
 use borrow.Author.Tests.{eqb-true, eqb-false, eq-eqb, ne_eqb, leb-true, leb-false, le-leb, lt-leb}
 use Rattle.dna.specs.Dna.{letter_c, letter_g, letter_n, letter_t, letter_a, same_letter}
 use Rattle.phred.specs.Phred.{capped_quality}
-use Rattle.methylation.specs.declared.Annotation.{Annotation}
-use Rattle.methylation.specs.declared.Annotation.TheVariants.{Absent, Of}
 use Rattle.methylation.specs.declared.ConversionPattern.TheVariants.{CToT, GToA}
-use Rattle.duplex_molecule.specs.Molecule.{molecule_call, ct_input, call_at}
+use Rattle.duplex_molecule.specs.Molecule.{call_as, molecule_call, ct_input, call_at}
 use Rattle.duplex_molecule.specs.declared.CtInput.TheVariants.{IsA, IsB}
-use Rattle.duplex_molecule.specs.declared.MoleculeCall.TheVariants.{NoCall, Call}
 use Rattle.duplex_position.specs.Combination.{agreed, disagreed, masked, uncalled, called}
 use Rattle.duplex_position.specs.declared.Position.{Position}
 use Rattle.duplex_call.specs.Annotated.{by_call, combined}
@@ -24,6 +21,8 @@ use Rattle.duplex_reason.specs.declared.NoCallReason.{NoCallReason}
 use Rattle.duplex_reason.specs.declared.NoCallReason.TheVariants.{Called, ANoCall, BNoCall, BothNoCall, EqualQualities, CloseQualities, LowSum, LowConfirming}
 use Rattle.duplex_reason.specs.declared.Shown.{Shown}
 use Rattle.reason_claims.proofs.Conditions.{one_test, exclusive}
+use Rattle.std.proofs.Common.{None, Some, Option}
+use Rattle.methylation.specs.declared.ConversionPattern.{ConversionPattern}
 
 -- The quality before it is held: of strands that disagree the difference, else the one that counts alone, or the sum.
 abbrev weighed : Bool → Bool → Bool → ℕ → ℕ → ℕ
@@ -213,38 +212,38 @@ c_is_no_n e = omega arith
 g_is_no_n : letter_g ≡ letter_n → ⊥
 g_is_no_n e = omega arith
 
-abbrev here : Annotation → ℕ → ℕ → ℕ → Shown
+abbrev here : Option ConversionPattern → ℕ → ℕ → ℕ → Shown
 here annotation base qual mark = record { annotation = annotation; base = base; qual = qual; mark = mark }
 
-masks : (p q : Annotation) (x qx mx y qy my : ℕ) → Masks x y (raw_quality (here p x qx mx) (here q y qy my)) (combined (ct_input p q) x qx mx y qy my)
+masks : (p q : Option ConversionPattern) (x qx mx y qy my : ℕ) → Masks x y (raw_quality (here p x qx mx) (here q y qy my)) (combined (ct_input p q) x qx mx y qy my)
 unfolding combined ct_input call_at molecule_call called_by
-masks Absent Absent x qx mx y qy my = plain x qx y qy
-masks Absent (Of q) x qx mx y qy my = plain x qx y qy
-masks (Of p) Absent x qx mx y qy my = plain x qx y qy
-masks (Of CToT) (Of CToT) x qx mx y qy my = plain x qx y qy
-masks (Of CToT) (Of GToA) x qx mx y qy my = go (c_test x y) (g_test x y) (one_test x y)
+masks None None x qx mx y qy my = plain x qx y qy
+masks None (Some q) x qx mx y qy my = plain x qx y qy
+masks (Some p) None x qx mx y qy my = plain x qx y qy
+masks (Some CToT) (Some CToT) x qx mx y qy my = plain x qx y qy
+masks (Some CToT) (Some GToA) x qx mx y qy my = go (c_test x y) (g_test x y) (one_test x y)
   where
     go :
         (c g : Bool)
         → (c ≡ true → g ≡ false)
         → Masks x y (weighed (not (c || g) && not (eqb x y)) (c && (same_letter x letter_t && eqb mx 0)) (g && (same_letter y letter_a && eqb my 0)) qx qy)
-        (by_call IsA x qx mx y qy my (cond c (Call CToT x letter_c) (cond g (Call GToA y letter_g) NoCall)))
+        (by_call IsA x qx mx y qy my (cond c (Some (call_as CToT x letter_c)) (cond g (Some (call_as GToA y letter_g)) None)))
     go true true apart = absurd (true≢false (apart refl))
     go true false apart = at_call x qx y qy letter_c (same_letter x letter_t && eqb mx 0) qy c_is_no_n
     go false true apart = at_call x qx y qy letter_g (same_letter y letter_a && eqb my 0) qx g_is_no_n
     go false false apart = plain x qx y qy
-masks (Of GToA) (Of CToT) x qx mx y qy my = go (c_test y x) (g_test y x) (one_test y x)
+masks (Some GToA) (Some CToT) x qx mx y qy my = go (c_test y x) (g_test y x) (one_test y x)
   where
     go :
         (c g : Bool)
         → (c ≡ true → g ≡ false)
         → Masks x y (weighed (not (g || c) && not (eqb x y)) (g && (same_letter x letter_a && eqb mx 0)) (c && (same_letter y letter_t && eqb my 0)) qx qy)
-        (by_call IsB x qx mx y qy my (cond c (Call CToT y letter_c) (cond g (Call GToA x letter_g) NoCall)))
+        (by_call IsB x qx mx y qy my (cond c (Some (call_as CToT y letter_c)) (cond g (Some (call_as GToA x letter_g)) None)))
     go true true apart = absurd (true≢false (apart refl))
     go true false apart = at_call x qx y qy letter_c (same_letter y letter_t && eqb my 0) qx c_is_no_n
     go false true apart = at_call x qx y qy letter_g (same_letter x letter_a && eqb mx 0) qy g_is_no_n
     go false false apart = plain x qx y qy
-masks (Of GToA) (Of GToA) x qx mx y qy my = plain x qx y qy
+masks (Some GToA) (Some GToA) x qx mx y qy my = plain x qx y qy
 
 pub shows_n : (a b : Shown) → eqb (combined (ct_input a.annotation b.annotation) a.base a.qual a.mark b.base b.qual b.mark).base letter_n ≡ is_reason (reason_at a b)
 shows_n a b =

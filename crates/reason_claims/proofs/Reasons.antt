@@ -2,105 +2,88 @@
 --     kind_again              what the combination made is what the answer goes by
 --     n_exactly_when_a_reason, elsewhere, worked      the claims
 -- Assumes nothing.
-use mathlib.Core.Path.{◌≡◌, refl, sym, ap, subst, ◌∙◌}
+use mathlib.Core.Path.{◌≡◌, refl, sym, ap, ◌∙◌}
+use Rattle.std.proofs.Common.{Option, Some, None, Result, Ok}
 use mathlib.Core.Logic.{◌↔◌}
-use mathlib.Core.Bool.{true, false, ◌||◌}
+use mathlib.Core.Bool.{true, false}
 use mathlib.Core.List.{List}
-use Prim.Native.Nat.{ℕ, zero, suc, ◌<◌}
+use Prim.Native.Nat.{ℕ, ◌<◌}
 use lib.Dec.{eqb}
 use lib.ListN.{get_or}
 use borrow.Author.Tests.{eqb-true, eqb-false, eq-eqb, ne_eqb, lt-ltb, le-ltb}
-use Rattle.lists.specs.Output.{unless, answer, put}
-use Rattle.lists.proofs.Output.{written}
+use Rattle.lists.specs.Output.{put}
 use Rattle.lists.proofs.Written.{table_front}
-use Rattle.refusals.specs.Refusal.{refusal, TooLong, Ragged}
-use Rattle.refusals.proofs.Refusal.{passed}
+use Rattle.refusals.specs.declared.Refusal.{Refusal}
+use Rattle.refusals.specs.Refusal.{refused}
+use Rattle.refusals.proofs.Claims.{none_lost}
+use Rattle.refusals.proofs.Outcome.{passed_by}
 use Rattle.dna.specs.Dna.{letter_n, upper, same_letter}
 use Rattle.duplex_molecule.specs.Molecule.{ct_input}
 use Rattle.duplex_arrays.specs.Positions.{position_of, combined_bases}
 use Rattle.duplex_outputs.specs.Outputs.{RecordArrays}
-use Rattle.duplex_kind.specs.Kind.{Strand, given, long, uneven, given_faults, strand_faults, kind_of, record_kind}
+use Rattle.duplex_kind.specs.Kind.{Strand, strand_faults, kind_of, record_kind}
 use Rattle.duplex_kind.specs.declared.DuplexConsensus.{DuplexConsensus}
-use Rattle.duplex_kind.specs.declared.DuplexConsensus.TheVariants.{Refused, NoRecord, Ab, Ba, Both}
+use Rattle.duplex_kind.specs.declared.DuplexConsensus.TheVariants.{Both}
 use Rattle.duplex_kind.proofs.Kind.{taken}
 use Rattle.duplex_record.specs.Record.{record_arrays, duplex_faults, duplex_refused}
-use Rattle.duplex_reason.specs.Reason.{called_by, holds, reason_at, is_reason}
-use Rattle.duplex_reason.specs.Record.{shown_at, reason_in, reason_of}
+use Rattle.duplex_reason.specs.Reason.{called_by, holds, reason_at}
+use Rattle.duplex_reason.specs.Record.{shown_at, reason_in, reason_told, reason_of}
 use Rattle.duplex_reason.specs.declared.NoCallReason.TheVariants.{Called}
-use Rattle.reason_claims.specs.Reasons.{Made, NExactlyWhenAReason, Elsewhere, Worked}
+use Rattle.reason_claims.specs.Reasons.{Made, tells_reason, NExactlyWhenAReason, Elsewhere, Worked}
 use Rattle.reason_claims.proofs.Conditions.{only_reasons}
 use Rattle.reason_claims.proofs.Quality.{shows_n}
 
--- An answer that is no refusal.
-abbrev NoRefusal : DuplexConsensus → Type 0
-NoRefusal (Refused number) = ⊥
-NoRefusal NoRecord = Unit {0}
-NoRefusal (Ab n) = Unit {0}
-NoRefusal (Ba n) = Unit {0}
-NoRefusal (Both n) = Unit {0}
+module _ (a b : Strand) (before now : RecordArrays) {kind : Option DuplexConsensus} (made : Made a b before now kind) where
+  abbrev row : Option Refusal
+  row = duplex_refused a b made.listed made.count made.leaving before
 
-passed_on : (number : ℕ) (k : DuplexConsensus) {kind : DuplexConsensus} → kind ≡ answer Refused number k → NoRefusal kind → (number ≡ 0) × (k ≡ kind)
-unfolding answer unless
-passed_on zero k e h = (refl, sym e)
-passed_on (suc n) k e h = absurd (subst NoRefusal e h)
-
-module _ (a b : Strand) (before now : RecordArrays) {kind : DuplexConsensus} (made : Made a b before now kind) (h : NoRefusal kind) where
-  abbrev number : ℕ
-  number = duplex_refused a b made.listed made.count made.leaving before
-
-  not_refused : (number ≡ 0) × (kind_of a b ≡ kind)
-  not_refused = passed_on number (kind_of a b) made.call.answered h
+  not_refused : (row ≡ None) × (kind_of a b ≡ kind)
+  not_refused = passed_by row (kind_of a b) (sym made.call.answered)
 
   -- Rows 7 and 8 do not refuse the strands, whatever the reads.
-  strands_pass : refusal (strand_faults a b false 0 false) ≡ 0
-  unfolding duplex_faults given_faults refusal
+  strands_pass : refused (strand_faults a b false 0 false) ≡ None
   strands_pass =
-      let faults = duplex_faults a b made.listed made.count made.leaving before in
-      let not_long : (long (given a) || long (given b)) ≡ false = (passed TooLong faults refl not_refused.0).0 in
-      let even : (uneven (given a) || uneven (given b)) ≡ false = (passed Ragged faults refl not_refused.0).0 in
-      rw (not_long, even)
+      let clear = none_lost (duplex_faults a b made.listed made.count made.leaving before) not_refused.0 in
+      rw (clear.0, clear.1.0)
 
-  kind_again : record_kind a b false 0 false ≡ kind
-  kind_again = sym (taken a b false 0 false strands_pass) ∙ not_refused.1
+  kind_again : record_kind a b false 0 false ≡ Ok kind
+  kind_again = sym (taken a b false 0 false strands_pass) ∙ ap Ok not_refused.1
 
-  answered : (i : ℕ) → reason_of a b i ≡ reason_in kind (shown_at a i) (shown_at b i) i
-  unfolding reason_of
-  answered i = ap (λ (k : DuplexConsensus). reason_in k (shown_at a i) (shown_at b i) i) kind_again
+  answered : (i : ℕ) → reason_of a b i ≡ Ok (reason_in kind (shown_at a i) (shown_at b i) i)
+  answered i = ap (λ (k : Result (Option DuplexConsensus) Refusal). reason_told k (shown_at a i) (shown_at b i) i) kind_again
 
 pub elsewhere : Elsewhere
-unfolding reason_in
 elsewhere = record {
-  past_both = λ a b before now n i made h. answered a b before now made tt i ∙ rw (le-ltb i n h);
-  past_ab = λ a b before now n i made h. answered a b before now made tt i ∙ rw (le-ltb i n h);
-  past_ba = λ a b before now n i made h. answered a b before now made tt i ∙ rw (le-ltb i n h);
-  none = λ a b before now i made. answered a b before now made tt i;
-  in_ab = λ a b before now n i made h. answered a b before now made tt i ∙ rw (lt-ltb i n h);
-  in_ba = λ a b before now n i made h. answered a b before now made tt i ∙ rw (lt-ltb i n h);
+  past_both = λ a b before now n i made h. answered a b before now made i ∙ rw (le-ltb i n h);
+  past_ab = λ a b before now n i made h. answered a b before now made i ∙ rw (le-ltb i n h);
+  past_ba = λ a b before now n i made h. answered a b before now made i ∙ rw (le-ltb i n h);
+  none = λ a b before now i made. answered a b before now made i;
+  in_ab = λ a b before now n i made h. answered a b before now made i ∙ rw (lt-ltb i n h);
+  in_ba = λ a b before now n i made h. answered a b before now made i ∙ rw (lt-ltb i n h);
 }
 
-module _ (a b : Strand) (before now : RecordArrays) (n i : ℕ) (made : Made a b before now (Both n)) (h : i < n) where
+module _ (a b : Strand) (before now : RecordArrays) (n i : ℕ) (made : Made a b before now (Some (Both n))) (h : i < n) where
   -- The base that was written.
   base_is_lem : get_or now.bases i 0 ≡ (position_of (ct_input a.annotation b.annotation) a.arrays b.arrays i).base
   unfolding combined_bases
   base_is_lem =
-      let (passes, kind) = not_refused a b before now made tt in
-      let left : now.bases ≡ put (record_arrays a b made.listed made.counted (kind_of a b)).bases before.bases = written _ before.bases made.call.outputs.bases passes in
+      let (passes, kind) = not_refused a b before now made in
+      let left : now.bases ≡ put (record_arrays a b made.listed made.counted (kind_of a b)).bases before.bases = rw passes at made.call.outputs.bases in
       ap (λ (xs : List ℕ). get_or xs i 0) (rw kind at left) ∙ table_front 0 n _ before.bases i h
 
-  answer_is : reason_of a b i ≡ reason_at (shown_at a i) (shown_at b i)
-  unfolding reason_in
-  answer_is = answered a b before now made tt i ∙ rw (lt-ltb i n h)
+  answer_is : reason_of a b i ≡ Ok (reason_at (shown_at a i) (shown_at b i))
+  answer_is = answered a b before now made i ∙ rw (lt-ltb i n h)
 
-  same : eqb (get_or now.bases i 0) letter_n ≡ is_reason (reason_of a b i)
-  same = ap (λ (x : ℕ). eqb x letter_n) base_is_lem ∙ shows_n (shown_at a i) (shown_at b i) ∙ sym (ap is_reason answer_is)
+  same : eqb (get_or now.bases i 0) letter_n ≡ tells_reason (reason_of a b i)
+  same = ap (λ (x : ℕ). eqb x letter_n) base_is_lem ∙ shows_n (shown_at a i) (shown_at b i) ∙ sym (ap tells_reason answer_is)
 
-  exactly : (get_or now.bases i 0 ≡ letter_n ↔ is_reason (reason_of a b i) ≡ true) × ((get_or now.bases i 0 ≡ letter_n → ⊥) ↔ reason_of a b i ≡ Called)
+  exactly : (get_or now.bases i 0 ≡ letter_n ↔ tells_reason (reason_of a b i) ≡ true) × ((get_or now.bases i 0 ≡ letter_n → ⊥) ↔ reason_of a b i ≡ Ok Called)
   exactly =
       let base = get_or now.bases i 0 in (
         (λ e. sym same ∙ eq-eqb base letter_n e, λ e. eqb-true base letter_n (same ∙ e)),
         (
-          λ e. answer_is ∙ only_reasons (shown_at a i) (shown_at b i) (sym (ap is_reason answer_is) ∙ sym same ∙ ne_eqb base letter_n e),
-          λ e. eqb-false base letter_n (same ∙ ap is_reason e),
+          λ e. answer_is ∙ ap Ok (only_reasons (shown_at a i) (shown_at b i) (sym (ap tells_reason answer_is) ∙ sym same ∙ ne_eqb base letter_n e)),
+          λ e. eqb-false base letter_n (same ∙ ap tells_reason e),
         ),
       )
 

@@ -1,47 +1,52 @@
 -- Request 101 of document 02: what the answer at a position says of the record and of the strands. Proved in proofs/.
-use Rattle.std.specs.Prelude.{◌≡◌, ◌↔◌, Bool, true, false, not, List, ◌∷◌, ◌++◌, ℕ, ◌≤◌, ◌<◌, get_or}
+use Rattle.std.specs.Prelude.{Option, None, Some, Result, Ok, Err, ◌≡◌, ◌↔◌, Bool, true, false, not, List, ◌∷◌, ◌++◌, ℕ, ◌≤◌, ◌<◌, get_or}
 use Rattle.lists.specs.Every.{every}
+use Rattle.refusals.specs.declared.Refusal.{Refusal}
 use Rattle.dna.specs.Dna.{letter_a, letter_c, letter_g, letter_n, letter_t, lower_n}
-use Rattle.methylation.specs.declared.Annotation.TheVariants.{Absent, Of}
 use Rattle.methylation.specs.declared.ConversionPattern.{ConversionPattern}
 use Rattle.methylation.specs.declared.ConversionPattern.TheVariants.{CToT, GToA}
 use Rattle.duplex_outputs.specs.Outputs.{RecordArrays}
 use Rattle.duplex_kind.specs.Kind.{Strand}
 use Rattle.duplex_kind.specs.declared.DuplexConsensus.{DuplexConsensus}
-use Rattle.duplex_kind.specs.declared.DuplexConsensus.TheVariants.{NoRecord, Ab, Ba, Both}
+use Rattle.duplex_kind.specs.declared.DuplexConsensus.TheVariants.{Ab, Ba, Both}
 use Rattle.duplex_record.specs.Record.{DuplexAs}
 use Rattle.duplex_reason.specs.Reason.{holds, reasons, reason_at, is_reason}
 use Rattle.duplex_reason.specs.Record.{reason_of}
 use Rattle.duplex_reason.specs.declared.NoCallReason.{NoCallReason}
-use Rattle.duplex_reason.specs.declared.NoCallReason.TheVariants.{Refused, Outside, SingleStrand, Called, ANoCall, BNoCall, BothNoCall, EqualQualities, CloseQualities, LowSum, LowConfirming}
+use Rattle.duplex_reason.specs.declared.NoCallReason.TheVariants.{Outside, SingleStrand, Called, ANoCall, BNoCall, BothNoCall, EqualQualities, CloseQualities, LowSum, LowConfirming}
 use Rattle.duplex_reason.specs.declared.Shown.{Shown}
 
--- A call of the combination, with a list of reads or without, that made a record of this kind.
-pub record Made (a b : Strand) (before now : RecordArrays) (kind : DuplexConsensus) : Type 0 where
+-- A call of the combination, with a list of reads or without, that was not refused and made a record of this kind, or none.
+pub record Made (a b : Strand) (before now : RecordArrays) (kind : Option DuplexConsensus) : Type 0 where
   pub listed : Bool
   pub count : ℕ
   pub leaving : Bool
   pub counted : ℕ → ℕ
-  pub call : DuplexAs a b listed count leaving counted before now kind
+  pub call : DuplexAs a b listed count leaving counted before now (Ok kind)
+
+-- An answer is one of the seven reasons; a refusal is none.
+abbrev pub tells_reason : Result NoCallReason Refusal → Bool
+tells_reason (Err refusal) = false
+tells_reason (Ok reason) = is_reason reason
 
 -- At every position of a record of two strands: the base that the combination wrote is N exactly when the answer is one of the seven
 -- reasons, and another base exactly when the answer is "called".
 abbrev pub NExactlyWhenAReason : Type 0
 NExactlyWhenAReason =
     (a b : Strand) (before now : RecordArrays) (n i : ℕ)
-    → Made a b before now (Both n)
+    → Made a b before now (Some (Both n))
     → i < n
-    → (get_or now.bases i 0 ≡ letter_n ↔ is_reason (reason_of a b i) ≡ true) × ((get_or now.bases i 0 ≡ letter_n → ⊥) ↔ reason_of a b i ≡ Called)
+    → (get_or now.bases i 0 ≡ letter_n ↔ tells_reason (reason_of a b i) ≡ true) × ((get_or now.bases i 0 ≡ letter_n → ⊥) ↔ reason_of a b i ≡ Ok Called)
 
 -- Every position past a record is outside, and every position where there is none; within a record of one strand, which is as long as
 -- that strand, each is "single strand".
 pub record Elsewhere : Type 0 where
-  pub past_both : (a b : Strand) (before now : RecordArrays) (n i : ℕ) → Made a b before now (Both n) → n ≤ i → reason_of a b i ≡ Outside
-  pub past_ab : (a b : Strand) (before now : RecordArrays) (n i : ℕ) → Made a b before now (Ab n) → n ≤ i → reason_of a b i ≡ Outside
-  pub past_ba : (a b : Strand) (before now : RecordArrays) (n i : ℕ) → Made a b before now (Ba n) → n ≤ i → reason_of a b i ≡ Outside
-  pub none : (a b : Strand) (before now : RecordArrays) (i : ℕ) → Made a b before now NoRecord → reason_of a b i ≡ Outside
-  pub in_ab : (a b : Strand) (before now : RecordArrays) (n i : ℕ) → Made a b before now (Ab n) → i < n → reason_of a b i ≡ SingleStrand
-  pub in_ba : (a b : Strand) (before now : RecordArrays) (n i : ℕ) → Made a b before now (Ba n) → i < n → reason_of a b i ≡ SingleStrand
+  pub past_both : (a b : Strand) (before now : RecordArrays) (n i : ℕ) → Made a b before now (Some (Both n)) → n ≤ i → reason_of a b i ≡ Ok Outside
+  pub past_ab : (a b : Strand) (before now : RecordArrays) (n i : ℕ) → Made a b before now (Some (Ab n)) → n ≤ i → reason_of a b i ≡ Ok Outside
+  pub past_ba : (a b : Strand) (before now : RecordArrays) (n i : ℕ) → Made a b before now (Some (Ba n)) → n ≤ i → reason_of a b i ≡ Ok Outside
+  pub none : (a b : Strand) (before now : RecordArrays) (i : ℕ) → Made a b before now None → reason_of a b i ≡ Ok Outside
+  pub in_ab : (a b : Strand) (before now : RecordArrays) (n i : ℕ) → Made a b before now (Some (Ab n)) → i < n → reason_of a b i ≡ Ok SingleStrand
+  pub in_ba : (a b : Strand) (before now : RecordArrays) (n i : ℕ) → Made a b before now (Some (Ba n)) → i < n → reason_of a b i ≡ Ok SingleStrand
 
 -- The answer is the first of the seven conditions, in the paper's order, that holds; and "called" exactly where none does.
 pub record FirstThatHolds : Type 0 where
@@ -62,7 +67,6 @@ by_n EqualQualities = false
 by_n CloseQualities = false
 by_n LowSum = false
 by_n LowConfirming = false
-by_n (Refused number) = false
 by_n Outside = false
 by_n SingleStrand = false
 by_n Called = false
@@ -76,10 +80,10 @@ pub record OnlyOneFits : Type 0 where
 
 -- A base and a quality, without an annotation; and of an annotated strand, marked informative or not.
 abbrev pub plain : ℕ → ℕ → Shown
-plain base qual = record { annotation = Absent; base = base; qual = qual; mark = 0 }
+plain base qual = record { annotation = None; base = base; qual = qual; mark = 0 }
 
 abbrev pub annotated : ConversionPattern → ℕ → ℕ → ℕ → Shown
-annotated pattern base qual mark = record { annotation = Of pattern; base = base; qual = qual; mark = mark }
+annotated pattern base qual mark = record { annotation = Some pattern; base = base; qual = qual; mark = mark }
 
 -- Every answer at a position of two strands, in numbers.
 pub record Worked : Type 0 where
