@@ -51,10 +51,12 @@ impl LittleEndian for u16 {
 
     ghost fixed = { length_bytes 2 };
 
+    #[tactic(auto, using(crate::proofs::Bytes::two_le))]
     fn from_bytes(bytes: &[u8]) -> u16 {
         u16::from_le_bytes([get_or(bytes, 0, 0), get_or(bytes, 1, 0)])
     }
 
+    #[tactic(auto, using(crate::proofs::Bytes::le_bytes16))]
     fn write_bytes(self, out: &mut [u8]) {
         copy(&self.to_le_bytes(), out);
     }
@@ -75,6 +77,7 @@ impl LittleEndian for u32 {
 
     ghost fixed = { length_bytes 4 };
 
+    #[tactic(auto, using(crate::proofs::Bytes::four_le))]
     fn from_bytes(bytes: &[u8]) -> u32 {
         u32::from_le_bytes([
             get_or(bytes, 0, 0),
@@ -84,6 +87,7 @@ impl LittleEndian for u32 {
         ])
     }
 
+    #[tactic(auto, using(crate::proofs::Bytes::le_bytes32))]
     fn write_bytes(self, out: &mut [u8]) {
         copy(&self.to_le_bytes(), out);
     }

@@ -18,7 +18,8 @@ use refusals::{MAX_POSITIONS, Refusal, refuse};
 // The largest Short, fgbio's ceiling of a depth or an error count at a position.
 pub const FGBIO_SHORT_DEPTH_MAX: u16 = 32767;
 
-// A depth, or a strand's errors, at one position, held to the ceiling before it goes into any sum or extreme.
+// A depth, or a strand's errors, at one position, held to the ceiling before it goes into any sum or extreme. The Rust's name, here and below, for
+// std's `min` and `clamp`.
 pub fn clamp_per_base_to_fgbio_short(depth: u16) -> u32
     ensures { result ≡ short depth }
 {
@@ -39,6 +40,7 @@ fn name_too_short(read_name_prefix: usize, umi: usize, out: usize) -> bool
     out.saturating_sub(read_name_prefix) <= umi
 }
 
+// By slices, no `write!`: no heap, and bytes of any kind.
 fn write_name(out: &mut [u8], read_name_prefix: &[u8], umi: &[u8])
     requires { length (read_name read_name_prefix.now umi.now) ≤ length out.old }
     ensures { out.new ≡ put (read_name read_name_prefix.now umi.now) out.old }

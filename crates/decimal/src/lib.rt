@@ -1,4 +1,5 @@
 // Numbers as decimal text, most significant digit first and without leading zeros. Uses lists (its laws only).
+// Not by `write!` and Display: into fixed memory its clause leaves open that it fails, and this never does; a String needs a heap.
 #![tactic(auto)]
 
 ghost use Rattle.std.specs.Prelude.{◌≡◌, ◌+◌, ◌<◌, length, take, set};

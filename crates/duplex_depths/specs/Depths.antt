@@ -1,5 +1,5 @@
 -- The depths of both strands at each position of a duplex record, uncapped, and their range.
-use Rattle.std.specs.Prelude.{ℕ, Bool, Option, Result, List, [], ◌∷◌, length, get_or}
+use Rattle.std.specs.Prelude.{ℕ, Bool, cond, ltb, Option, Result, List, [], ◌∷◌, length, get_or}
 use Rattle.lists.specs.Table.{tabulate}
 use Rattle.numbers.specs.Numbers.{saturating_add, largest, smallest}
 use Rattle.refusals.specs.declared.Refusal.{Refusal}
@@ -15,6 +15,10 @@ combined_depth ab ba i = saturating_add 16 (get_or ab i 0) (get_or ba i 0)
 -- Of a record of n positions.
 unfoldable pub combined_depths : ℕ → List ℕ → List ℕ → List ℕ
 combined_depths n ab ba = tabulate n (combined_depth ab ba)
+
+-- The longer strand's depths, the first's where they are as long.
+abbrev pub longer : List ℕ → List ℕ → List ℕ
+longer ab ba = cond (ltb (length ab) (length ba)) ba ab
 
 -- Refusal 7's condition for a record of n positions, by how many depths its strands have.
 abbrev pub record_too_long : ℕ → ℕ → ℕ → Bool

@@ -1,13 +1,14 @@
-// The depths of a duplex record, from duplex_caller.rs: both strands' depths at each position, and their range. A record is given
-// by how many positions it has and by its strands' depths; an absent strand has none. Uses lists, refusals and numbers.
+// The depths of a duplex record, from duplex_caller.rs: both strands' depths at each position, and their range. Uses lists, refusals and
+// numbers.
 #![tactic(auto)]
 
-ghost use Rattle.std.specs.Prelude.{◌≡◌, ◌≤◌, length};
+ghost use Rattle.std.specs.Prelude.{ℕ, ◌≡◌, ◌≤◌, length, get_or};
 ghost use Rattle.lists.specs.Output.{put};
 ghost use Rattle.refusals.specs.Outcome.{answer, after};
-ghost use Rattle.duplex_depths.specs.Depths.{combined_depths, record_too_long, combined_refused, extremes, depth_range};
+ghost use Rattle.duplex_depths.specs.Depths.{combined_depths, longer, record_too_long, combined_refused, extremes, depth_range};
 
-use lists::get_or;
+use lists::copy;
+use numbers::{largest, smallest};
 use refusals::{MAX_POSITIONS, Refusal, refuse};
 
 #[derive(Clone, Copy, Debug, PartialEq, Eq)]
@@ -16,73 +17,74 @@ pub struct DepthRange {
     pub max: u16,
 }
 
+// How many positions a record has, and its strands' depths; an absent strand has none.
+#[derive(Clone, Copy)]
+pub struct RecordDepths<'a> {
+    pub positions: usize,
+    pub ab: &'a [u16],
+    pub ba: &'a [u16],
+}
+
 // Row 7's condition for a record.
-fn record_too_long(positions: usize, ab: usize, ba: usize) -> bool
-    ensures { result ≡ record_too_long positions ab ba }
+fn record_too_long(r: RecordDepths) -> bool
+    ensures { result ≡ record_too_long r.entry.positions (length r.entry.ab.now) (length r.entry.ba.now) }
 {
-    (MAX_POSITIONS < positions) | ((MAX_POSITIONS < ab) | (MAX_POSITIONS < ba))
+    (MAX_POSITIONS < r.positions) | ((MAX_POSITIONS < r.ab.len()) | (MAX_POSITIONS < r.ba.len()))
+}
+
+// The longer of two slices, the first where they are as long. That a depth fits its type is told of a slice, and not of a slice in a
+// struct, so its caller is told here.
+fn longer<'a>(xs: &'a [u16], ys: &'a [u16]) -> &'a [u16]
+    ensures is { result.now ≡ longer xs.now ys.now }
+    ensures fits { (i : ℕ) → get_or result.now i 0 ≤ 65535 }
+{
+    if xs.len() < ys.len() { ys } else { xs }
 }
 
 // To where both strands reach their depths are added; then the longer is alone, and behind it there is none.
-fn write_combined(positions: usize, ab: &[u16], ba: &[u16], out: &mut [u16])
-    requires { positions ≤ length out.old }
-    ensures { out.new ≡ put (combined_depths positions ab.now ba.now) out.old }
+fn write_combined(r: RecordDepths, out: &mut [u16])
+    requires { r.positions ≤ length out.old }
+    ensures { out.new ≡ put (combined_depths r.entry.positions r.entry.ab.now r.entry.ba.now) out.old }
 {
-    let ab_end = positions.min(ab.len());
-    let ba_end = positions.min(ba.len());
-    let both = ab_end.min(ba_end);
-    let longer = ab_end.max(ba_end);
+    let RecordDepths { positions, ab, ba } = r;
+    let both = positions.min(ab.len().min(ba.len()));
     for i in 0..both {
         out[i] = ab[i].saturating_add(ba[i]);
     }
-    for i in both..ab_end {
-        out[i] = ab[i];
-    }
-    for i in ab_end..longer {
-        out[i] = ba[i];
-    }
-    for i in longer..positions {
-        out[i] = 0;
-    }
+    let alone = longer(ab, ba);
+    let end = positions.min(alone.len());
+    copy(&alone[both..end], &mut out[both..end]);
+    out[end..positions].fill(0);
 }
 
 // Writes the depths of both strands at each of the record's positions, and answers how many these are. Refuses by 7, 12.
-pub fn combined_depths(
-    positions: usize,
-    ab: &[u16],
-    ba: &[u16],
-    out: &mut [u16],
-) -> Result<usize, Refusal>
-    ensures value { result ≡ answer (combined_refused positions ab.now ba.now out.old) positions }
-    ensures out_after { out.new ≡ after (combined_refused positions ab.now ba.now out.old) (combined_depths positions ab.now ba.now) out.old }
+pub fn combined_depths(r: RecordDepths, out: &mut [u16]) -> Result<usize, Refusal>
+    ensures value { result ≡ answer (combined_refused r.entry.positions r.entry.ab.now r.entry.ba.now out.old) r.entry.positions }
+    ensures out_after { out.new ≡ after (combined_refused r.entry.positions r.entry.ab.now r.entry.ba.now out.old) (combined_depths r.entry.positions r.entry.ab.now r.entry.ba.now) out.old }
 {
-    refuse(
-        record_too_long(positions, ab.len(), ba.len()),
-        Refusal::TooLong,
-    )?;
-    refuse(out.len() < positions, Refusal::OutputTooShort)?;
-    write_combined(positions, ab, ba, out);
-    Ok(positions)
+    refuse(record_too_long(r), Refusal::TooLong)?;
+    refuse(out.len() < r.positions, Refusal::OutputTooShort)?;
+    write_combined(r, out);
+    Ok(r.positions)
 }
 
 fn extremes(depths: &[u16]) -> DepthRange
     ensures { result ≡ extremes depths.now }
 {
-    let first = get_or(depths, 0, 0);
     DepthRange {
-        min: depths.iter().fold(first, |min, &depth| min.min(depth)),
-        max: depths.iter().fold(0, |max, &depth| max.max(depth)),
+        min: smallest(depths),
+        max: largest(depths),
     }
 }
 
 // The smallest and the largest of a record's combined depths, each 0 over no positions. Refuses by 7.
-pub fn depth_range(positions: usize, ab: &[u16], ba: &[u16]) -> Result<DepthRange, Refusal>
-    ensures { result ≡ depth_range positions ab.now ba.now }
+pub fn depth_range(r: RecordDepths) -> Result<DepthRange, Refusal>
+    ensures { result ≡ depth_range r.entry.positions r.entry.ab.now r.entry.ba.now }
 {
-    let too_long = record_too_long(positions, ab.len(), ba.len());
+    let too_long = record_too_long(r);
     refuse(too_long, Refusal::TooLong)?;
     // No heap: arrays of the most that is looked at.
     let mut depths = [0; 1024];
-    write_combined(positions, ab, ba, &mut depths);
-    Ok(extremes(&depths[0..positions]))
+    write_combined(r, &mut depths);
+    Ok(extremes(&depths[0..r.positions]))
 }

@@ -1,4 +1,5 @@
 // 32-bit numbers as hexadecimal text: eight digits, most significant first, in lower case. Uses lists.
+// Not by `write!` with {:08x}: tried into fixed memory, the arm where it fails stays open, and this never does; a String needs a heap.
 #![tactic(auto)]
 
 ghost use Rattle.std.specs.Prelude.{◌≡◌, ◌-◌, ◌^◌, ◌<◌, length, take};

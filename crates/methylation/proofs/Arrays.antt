@@ -2,15 +2,19 @@
 --     evidence_refused                          refused: every array is as it was
 --     evidence_put                              not refused: every array has its own written to its front
 --     equal_lengths, as_many_as, enough_room    what rows 8 and 12 leave
+--     where_annotated                           what a condition that is not met says where there is an annotation
 -- Assumes nothing.
-use mathlib.Core.Path.{◌≡◌, refl}
-use mathlib.Core.Bool.{false}
+use mathlib.Core.Path.{◌≡◌, refl, sym}
+use mathlib.Core.Bool.{Bool, true, false, true≢false}
 use mathlib.Core.List.{[], ◌∷◌}
 use Prim.Native.Nat.{ℕ, ◌≤◌}
-use Rattle.std.proofs.Common.{Some, None}
+use Rattle.std.proofs.Common.{Option, Some, None}
+use Rattle.std.specs.Option.{option_map_or}
 use Rattle.refusals.specs.declared.Refusal.{Refusal}
 use Rattle.refusals.proofs.Condition.{Every, not_ragged, not_too_short}
-use Rattle.methylation.specs.Arrays.{EvidenceArrays, three, evidence_ragged, evidence_uneven, evidence_too_short, PutsEvidence, LeavesEvidence}
+use Rattle.methylation.specs.Arrays.{EvidenceArrays, annotated_lengths, evidence_lengths, three, evidence_ragged, evidence_uneven, evidence_too_short, PutsEvidence, LeavesEvidence}
+use Rattle.methylation.specs.Methylation.{is_annotated}
+use Rattle.methylation.specs.declared.ConversionPattern.{ConversionPattern}
 use Rattle.methylation.specs.declared.EvidenceLengths.{EvidenceLengths}
 
 pub evidence_refused : (row : Refusal) (written before : EvidenceArrays) → LeavesEvidence (Some row) written before before
@@ -31,3 +35,11 @@ pub enough_room : (n : ℕ) (out : EvidenceLengths) → evidence_too_short n out
 enough_room n out h =
     let enough = not_too_short n (three out) h in
     (enough.0, enough.1.0, enough.1.1.0)
+
+pub where_annotated :
+    (test : EvidenceLengths → Bool) (annotation : Option ConversionPattern) (e : EvidenceArrays)
+    → option_map_or test (annotated_lengths annotation e) false ≡ false
+    → is_annotated annotation ≡ true
+    → test (evidence_lengths e) ≡ false
+where_annotated test None e h there = absurd (true≢false (sym there))
+where_annotated test (Some pattern) e h there = h

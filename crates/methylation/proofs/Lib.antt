@@ -1,2 +1,3 @@
+pub mod Choices
 pub mod Arrays
 pub mod Filling

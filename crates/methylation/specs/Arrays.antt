@@ -1,11 +1,14 @@
 -- An annotation's evidence as arrays, document 01: per position an informative mark (0 no, any other byte yes) and two counts.
-use Rattle.std.specs.Prelude.{ℕ, ◌≡◌, Bool, not, cond, Option, List, [], ◌∷◌, eqb, length}
+use Rattle.std.specs.Prelude.{ℕ, ◌≡◌, Bool, not, cond, Option, Some, List, [], ◌∷◌, eqb, length, take}
+use Rattle.std.specs.Option.{option_and}
 use Rattle.lists.specs.Output.{put}
 use Rattle.lists.specs.Part.{only_if}
 use Rattle.lists.specs.Table.{tabulate}
 use Rattle.refusals.specs.declared.Refusal.{Refusal}
 use Rattle.refusals.specs.Refusal.{too_long, ragged, too_short}
 use Rattle.refusals.specs.Outcome.{after}
+use Rattle.methylation.specs.Methylation.{is_annotated}
+use Rattle.methylation.specs.declared.ConversionPattern.{ConversionPattern}
 use Rattle.methylation.specs.declared.Evidence.{Evidence}
 use Rattle.methylation.specs.declared.EvidenceLengths.{EvidenceLengths}
 use Rattle.methylation.specs.declared.EvidenceSlices.{EvidenceSlices}
@@ -31,12 +34,24 @@ evidence_table n of = evidence_arrays (tabulate n (λ i. (of i).mark)) (tabulate
 abbrev pub evidence_only_if : Bool → EvidenceArrays → EvidenceArrays
 evidence_only_if there e = evidence_arrays (only_if there e.marks) (only_if there e.unconverted) (only_if there e.converted)
 
-abbrev pub evidence_places : Bool → ℕ → ℕ
-evidence_places there n = cond there n 0
+abbrev pub evidence_places : Option ConversionPattern → ℕ → ℕ
+evidence_places annotation n = cond (is_annotated annotation) n 0
+
+-- The first n places of each array.
+abbrev pub evidence_fronts : ℕ → EvidenceArrays → EvidenceArrays
+evidence_fronts n e = evidence_arrays (take n e.marks) (take n e.unconverted) (take n e.converted)
 
 -- How long each is.
 abbrev pub evidence_lengths : EvidenceArrays → EvidenceLengths
 evidence_lengths e = record { marks = length e.marks; unconverted = length e.unconverted; converted = length e.converted }
+
+-- The same where there is an annotation; else the arrays are not looked at.
+abbrev pub annotated_lengths : Option ConversionPattern → EvidenceArrays → Option EvidenceLengths
+annotated_lengths annotation e = option_and annotation (Some (evidence_lengths e))
+
+-- Three arrays of so many places each.
+abbrev pub evidence_of_length : ℕ → EvidenceLengths
+evidence_of_length places = record { marks = places; unconverted = places; converted = places }
 
 -- A mark says that its position is informative.
 abbrev pub informative : ℕ → Bool

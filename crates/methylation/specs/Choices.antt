@@ -1,5 +1,5 @@
 -- What a number stands for where a program chooses. A number that stands for nothing is refused as 13, before all else.
-use Rattle.std.specs.Prelude.{None, Some, Option, Result, Ok, Err, ℕ, Bool, cond, ◌||◌, eqb, ltb}
+use Rattle.std.specs.Prelude.{◌≡◌, None, Some, Option, Result, Ok, Err, ℕ, Bool, cond, ◌||◌, eqb, ltb}
 use Rattle.refusals.specs.declared.Refusal.{Refusal}
 use Rattle.refusals.specs.declared.Refusal.TheVariants.{Broken}
 use Rattle.methylation.specs.declared.ConversionPattern.{ConversionPattern}
@@ -16,6 +16,15 @@ wrong_pattern number = eqb number 0 || ltb 2 number
 
 abbrev pub pattern_in : ℕ → Result ConversionPattern Refusal
 pattern_in number = cond (wrong_pattern number) (Err Broken) (Ok (pattern_of number))
+
+-- And the other way round: the number that stands for a pattern.
+abbrev pub pattern_number : ConversionPattern → ℕ
+pattern_number CToT = 1
+pattern_number GToA = 2
+
+-- A pattern is read back from its number.
+abbrev pub PatternBack : Type 0
+PatternBack = (pattern : ConversionPattern) → pattern_in (pattern_number pattern) ≡ Ok pattern
 
 -- An annotation: 0 is none, else its pattern.
 abbrev pub annotation_of : ℕ → Option ConversionPattern

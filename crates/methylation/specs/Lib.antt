@@ -1,3 +1,4 @@
 pub mod Arrays
-pub mod Methylation
 pub mod Choices
+pub mod Methylation
+pub mod Outputs

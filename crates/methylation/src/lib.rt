@@ -3,13 +3,15 @@
 #![tactic(auto)]
 
 ghost use Rattle.std.specs.Prelude.{◌≡◌};
-ghost use Rattle.methylation.specs.Choices.{pattern_in, mode_in};
-ghost use Rattle.methylation.specs.Arrays.{evidence_in, evidence_places, evidence_lengths, evidence_too_long, evidence_ragged, evidence_uneven, evidence_too_short};
+ghost use Rattle.methylation.specs.Choices.{pattern_number, pattern_of, wrong_pattern, pattern_in, mode_of, wrong_mode, mode_in};
+ghost use Rattle.methylation.specs.Arrays.{evidence_in, evidence_places, evidence_lengths, evidence_of_length, evidence_fronts, evidence_too_long, evidence_ragged, evidence_uneven, evidence_too_short};
+ghost use Rattle.methylation.specs.Outputs.{evidence_out};
 ghost use Rattle.methylation.specs.Methylation.{is_enabled, pattern_of_flags, pattern_bases, is_annotated, is_cg, is_cpg_context, evidence_if};
 
 use dna::eq_ignore_ascii_case;
 use flags::{LAST_SEGMENT, is_set};
-use refusals::{MAX_POSITIONS, Refusal};
+use lists::front;
+use refusals::{MAX_POSITIONS, Refusal, refuse};
 
 // The chemistry, which decides whether a converted base is methylated.
 #[derive(Clone, Copy, Debug, PartialEq, Eq)]
@@ -26,19 +28,16 @@ impl MethylationMode {
     pub fn is_enabled(self) -> bool
         ensures { result ≡ is_enabled self }
     {
-        match self {
-            MethylationMode::Disabled => false,
-            MethylationMode::EmSeq => true,
-            MethylationMode::Taps => true,
-        }
+        self != MethylationMode::Disabled
     }
 }
 
-// How a read shows conversions, in the orientation in which it was sequenced.
+// How a read shows conversions, in the orientation in which it was sequenced; with the number that stands for it where a program
+// chooses.
 #[derive(Clone, Copy, Debug, PartialEq, Eq)]
 pub enum ConversionPattern {
-    CToT,
-    GToA,
+    CToT = 1,
+    GToA = 2,
 }
 
 // The reference base that a pattern tracks, and how a read shows it unconverted and converted.
@@ -61,6 +60,13 @@ impl ConversionPattern {
         }
     }
 
+    // The number that stands for it: those that C sees.
+    pub fn number(self) -> u8
+        ensures { result ≡ pattern_number self }
+    {
+        self as u8
+    }
+
     pub fn bases(self) -> PatternBases
         ensures { result ≡ pattern_bases self }
     {
@@ -79,34 +85,60 @@ impl ConversionPattern {
     }
 }
 
-// As a number, 1 is C to T and 2 G to A.
+// Whether a number stands for no pattern.
+pub fn wrong_pattern(number: u8) -> bool
+    ensures { result ≡ wrong_pattern number }
+{
+    (number == 0) | (2 < number)
+}
+
+// 1: C to T; any other number: G to A.
+pub fn pattern_of(number: u8) -> ConversionPattern
+    ensures { result ≡ pattern_of number }
+{
+    match number {
+        1 => ConversionPattern::CToT,
+        _ => ConversionPattern::GToA,
+    }
+}
+
 impl TryFrom<u8> for ConversionPattern {
     type Error = Refusal;
 
     ghost try_from_gives = { λ number answer. answer ≡ pattern_in number };
 
     fn try_from(number: u8) -> Result<Self, Refusal> {
-        match number {
-            1 => Ok(ConversionPattern::CToT),
-            2 => Ok(ConversionPattern::GToA),
-            _ => Err(Refusal::Broken),
-        }
+        refuse(wrong_pattern(number), Refusal::Broken)?;
+        Ok(pattern_of(number))
     }
 }
 
-// As a number, 0 is Disabled, 1 EM-Seq and 2 TAPs.
+// Whether a number stands for no mode.
+pub fn wrong_mode(number: u8) -> bool
+    ensures { result ≡ wrong_mode number }
+{
+    2 < number
+}
+
+// 0: Disabled; 1: EM-Seq; any other number: TAPs.
+pub fn mode_of(number: u8) -> MethylationMode
+    ensures { result ≡ mode_of number }
+{
+    match number {
+        0 => MethylationMode::Disabled,
+        1 => MethylationMode::EmSeq,
+        _ => MethylationMode::Taps,
+    }
+}
+
 impl TryFrom<u8> for MethylationMode {
     type Error = Refusal;
 
     ghost try_from_gives = { λ number answer. answer ≡ mode_in number };
 
     fn try_from(number: u8) -> Result<Self, Refusal> {
-        match number {
-            0 => Ok(MethylationMode::Disabled),
-            1 => Ok(MethylationMode::EmSeq),
-            2 => Ok(MethylationMode::Taps),
-            _ => Err(Refusal::Broken),
-        }
+        refuse(wrong_mode(number), Refusal::Broken)?;
+        Ok(mode_of(number))
     }
 }
 
@@ -124,6 +156,14 @@ pub struct EvidenceSlices<'a> {
     pub marks: &'a [u8],
     pub unconverted: &'a [u32],
     pub converted: &'a [u32],
+}
+
+// The outputs for an annotation's evidence. A function that is lent them keeps each slice where it is (specs/Outputs.antt).
+#[derive(Drop)]
+pub struct EvidenceOutputs<'a> {
+    pub marks: &'a mut [u8],
+    pub unconverted: &'a mut [u32],
+    pub converted: &'a mut [u32],
 }
 
 // How long each array of an annotation's evidence is.
@@ -179,15 +219,38 @@ pub fn evidence_if(kept: bool, unconverted: u32, converted: u32) -> Evidence
     }
 }
 
-// How many places of evidence are written, of n positions: all, or none.
-// No array is looked at: the flag is all that there is of the annotation.
-pub fn evidence_places(there: bool, n: usize) -> usize
-    ensures { result ≡ evidence_places there n }
+// How many places of evidence are written, of n positions: all, or none without an annotation.
+pub fn evidence_places(annotation: Option<ConversionPattern>, n: usize) -> usize
+    ensures { result ≡ evidence_places annotation n }
 {
-    if there { n } else { 0 }
+    annotation.map_or(0, |_| n)
 }
 
-impl EvidenceSlices<'_> {
+impl EvidenceLengths {
+    // Three arrays of so many places each.
+    pub fn of(places: usize) -> Self
+        ensures { result ≡ evidence_of_length places }
+    {
+        EvidenceLengths {
+            marks: places,
+            unconverted: places,
+            converted: places,
+        }
+    }
+}
+
+impl<'a> EvidenceSlices<'a> {
+    // The first n places of each array, or all where there are fewer.
+    pub fn front(self, n: usize) -> EvidenceSlices<'a>
+        ensures { evidence_in result ≡ evidence_fronts n (evidence_in self.entry) }
+    {
+        EvidenceSlices {
+            marks: front(self.marks, n),
+            unconverted: front(self.unconverted, n),
+            converted: front(self.converted, n),
+        }
+    }
+
     pub fn lengths(self) -> EvidenceLengths
         ensures { result ≡ evidence_lengths (evidence_in self.entry) }
     {
@@ -225,4 +288,16 @@ pub fn evidence_too_short(n: usize, out: EvidenceLengths) -> bool
     ensures { result ≡ evidence_too_short n out }
 {
     (out.marks < n) | ((out.unconverted < n) | (out.converted < n))
+}
+
+impl EvidenceOutputs<'_> {
+    pub fn lengths(&self) -> EvidenceLengths
+        ensures { result ≡ evidence_lengths (evidence_out self.now) }
+    {
+        EvidenceLengths {
+            marks: self.marks.len(),
+            unconverted: self.unconverted.len(),
+            converted: self.converted.len(),
+        }
+    }
 }

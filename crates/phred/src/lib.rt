@@ -8,7 +8,7 @@ pub const MIN_PHRED: u8 = 2;
 
 pub const MAX_PHRED: u8 = 93;
 
-// A sum or difference of qualities, held to MIN_PHRED..MAX_PHRED.
+// A sum or difference of qualities, held to MIN_PHRED..MAX_PHRED. The Rust's name for std's `clamp` to a byte.
 #[tactic(auto, unfolding(crate::specs::Phred::capped_quality))]
 pub fn cap_quality(score: u16) -> u8
     ensures { result ≡ capped_quality score }

@@ -1,15 +1,16 @@
 -- The claims of specs/Claims.antt. Assumes nothing.
-use mathlib.Core.Path.{◌≡◌, refl}
+use mathlib.Core.Path.{◌≡◌, refl, sym, ap, ◌∙◌}
 use mathlib.Core.Bool.{Bool, true, false, cond}
 use mathlib.Core.List.{List, [], ◌∷◌}
 use Prim.Native.Nat.{ℕ}
-use Rattle.std.proofs.Common.{Option, Some, None}
+use Rattle.std.proofs.Common.{Option, Some, None, Result}
 use lib.Dec.{eqb}
 use borrow.Author.Tests.{eq-eqb, eqb-false}
 use Rattle.refusals.specs.declared.Refusal.{Refusal}
 use Rattle.refusals.specs.declared.Refusal.TheVariants.{Broken, NoThresholds, TooManyThresholds, XyAboveTotal, YxAboveXy, TooLong, Ragged, TooManyReads, PartOutside, BelowLength, OutputTooShort, NoMi, NoStrand}
-use Rattle.refusals.specs.Refusal.{Fault, number_of, code, of_code, refused, number_or_0}
-use Rattle.refusals.specs.Claims.{EachOnce, Clear, NoneLost, NoneLostByNumber, NothingWritten}
+use Rattle.refusals.specs.Refusal.{Fault, order, number_of, code, of_code, sorted, first, refused, number_or_0}
+use Rattle.refusals.specs.Outcome.{answer, refused_if}
+use Rattle.refusals.specs.Claims.{EachOnce, Clear, NoneLost, NoneLostByNumber, then, chain, InOrder, ListedInOrder, NothingWritten, AllWritten}
 use Rattle.refusals.proofs.InOrder.{numbered_from_1, passed}
 
 pub each_once : EachOnce
@@ -55,5 +56,25 @@ no_number (Some row) e = absurd (eqb-false (number_of row) 0 (numbered_from_1 ro
 pub none_lost_by_number : NoneLostByNumber
 none_lost_by_number fs e = none_lost fs (no_number (refused fs) e)
 
-pub nothing_written : NothingWritten
-nothing_written row xs out = (refl, refl)
+test_first :
+    (met : Bool) (row : Refusal) (rest : Result (Unit {0}) Refusal) (later : Option Refusal)
+    → rest ≡ answer later tt
+    → then (refused_if met row) rest ≡ answer (cond met (Some row) later) tt
+test_first true row rest later e = refl
+test_first false row rest later e = e
+
+chain_first : (fs : List Fault) → chain fs ≡ answer (first fs) tt
+chain_first [] = refl
+chain_first (f ∷ fs) = test_first f.met f.row (chain fs) (first fs) (chain_first fs)
+
+pub in_order : InOrder
+in_order fs = chain_first (sorted order fs)
+
+pub listed_in_order : ListedInOrder
+listed_in_order fs e = sym (ap chain e) ∙ in_order fs
+
+pub nothing_written : {A : Type 0} → NothingWritten A
+nothing_written = record { answer_refused = λ row x. refl; after_refused = λ row xs out. refl }
+
+pub all_written : {A : Type 0} → AllWritten A
+all_written = record { answer_passed = λ x. refl; after_passed = λ xs out. refl }

@@ -38,7 +38,7 @@ pub enum Refusal {
 }
 
 impl Refusal {
-    // The number of the row.
+    // The number of the row: those that C sees.
     pub fn number(self) -> u8
         ensures { result ≡ number_of self }
     {

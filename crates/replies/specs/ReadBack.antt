@@ -9,12 +9,6 @@ pub record AnswersBack {Told Numbers : Type 0} (reply : Result Told Refusal → 
   pub passes : (x : Told) → number (reply (Ok x)) ≡ 0
   pub answers : (x : Told) → back (reply (Ok x)) ≡ x
 
--- A refusal by its number; any other answer, whose number is 0, by `back`.
-pub record ReadsBack {Answer Told Numbers : Type 0} (refused : ℕ → Answer) (told : Told → Answer) (reply : Answer → Numbers) (number : Numbers → ℕ) (back : Numbers → Told) : Type 0 where
-  pub refusals : (n : ℕ) → number (reply (refused n)) ≡ n
-  pub passes : (x : Told) → number (reply (told x)) ≡ 0
-  pub answers : (x : Told) → back (reply (told x)) ≡ x
-
 -- One answer that is no refusal, read back whole: for answers of several cases.
 pub record TellsBack {Answer Numbers : Type 0} (reply : Answer → Numbers) (number : Numbers → ℕ) (back : Numbers → Answer) (x : Answer) : Type 0 where
   pub passes : number (reply x) ≡ 0

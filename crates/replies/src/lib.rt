@@ -4,10 +4,12 @@
 
 ghost use Rattle.std.specs.Prelude.{◌≡◌};
 ghost use Rattle.methylation.specs.Choices.{annotation_in, annotation_of, wrong_annotation};
-ghost use Rattle.replies.specs.Replies.{bit_reply, count_reply, number_reply};
+ghost use Rattle.refusals.specs.Refusal.{number_of};
+ghost use Rattle.replies.specs.Choices.{annotations_in};
+ghost use Rattle.replies.specs.Replies.{not_counted, no_number, bit_reply, count_reply, number_reply};
 
-use methylation::ConversionPattern;
-use refusals::Refusal;
+use methylation::{ConversionPattern, pattern_of};
+use refusals::{Refusal, refuse};
 
 // `refused` is the refusal's number; where it is 0, so many elements are written to each output.
 #[repr(C)]
@@ -17,16 +19,26 @@ pub struct Count {
     pub count: usize,
 }
 
+// The numbers are those that C sees.
+impl From<Refusal> for Count {
+    ghost from_gives = { λ refusal reply. reply ≡ not_counted (number_of refusal) };
+
+    fn from(refusal: Refusal) -> Count {
+        Count {
+            refused: refusal.number(),
+            count: 0,
+        }
+    }
+}
+
+// The numbers are those that C sees.
 impl From<Result<usize, Refusal>> for Count {
     ghost from_gives = { λ answer reply. reply ≡ count_reply answer };
 
     fn from(answer: Result<usize, Refusal>) -> Count {
         match answer {
             Ok(count) => Count { refused: 0, count },
-            Err(refusal) => Count {
-                refused: refusal.number(),
-                count: 0,
-            },
+            Err(refusal) => Count::from(refusal),
         }
     }
 }
@@ -39,16 +51,26 @@ pub struct Number {
     pub number: u32,
 }
 
+// The numbers are those that C sees.
+impl From<Refusal> for Number {
+    ghost from_gives = { λ refusal reply. reply ≡ no_number (number_of refusal) };
+
+    fn from(refusal: Refusal) -> Number {
+        Number {
+            refused: refusal.number(),
+            number: 0,
+        }
+    }
+}
+
+// The numbers are those that C sees.
 impl From<Result<u32, Refusal>> for Number {
     ghost from_gives = { λ answer reply. reply ≡ number_reply answer };
 
     fn from(answer: Result<u32, Refusal>) -> Number {
         match answer {
             Ok(number) => Number { refused: 0, number },
-            Err(refusal) => Number {
-                refused: refusal.number(),
-                number: 0,
-            },
+            Err(refusal) => Number::from(refusal),
         }
     }
 }
@@ -63,7 +85,7 @@ impl From<Result<bool, Refusal>> for Number {
 }
 
 // Whether a number stands for no annotation and no absence of one.
-// An absent strand's number is not looked at, so that the test and the reading are two.
+// Beside annotation_in, since entries promise by it when they refuse (RepliedAs).
 pub fn wrong_annotation(number: u8) -> bool
     ensures { result ≡ wrong_annotation number }
 {
@@ -71,22 +93,27 @@ pub fn wrong_annotation(number: u8) -> bool
 }
 
 // 0: no annotation; 1: C to T; any other number: G to A.
+// Beside annotation_in, since the number of a strand that is absent is not tested.
 pub fn annotation_of(number: u8) -> Option<ConversionPattern>
     ensures { result ≡ annotation_of number }
 {
-    match number {
-        0 => None,
-        1 => Some(ConversionPattern::CToT),
-        _ => Some(ConversionPattern::GToA),
-    }
+    (number != 0).then(|| pattern_of(number))
 }
 
 // The annotation that a number stands for.
 pub fn annotation_in(number: u8) -> Result<Option<ConversionPattern>, Refusal>
     ensures { result ≡ annotation_in number }
 {
-    if wrong_annotation(number) {
-        return Err(Refusal::Broken);
-    }
+    refuse(wrong_annotation(number), Refusal::Broken)?;
     Ok(annotation_of(number))
+}
+
+// Those that two numbers stand for.
+pub fn annotations_in(
+    a: u8,
+    b: u8,
+) -> Result<(Option<ConversionPattern>, Option<ConversionPattern>), Refusal>
+    ensures { result ≡ annotations_in a b }
+{
+    Ok((annotation_in(a)?, annotation_in(b)?))
 }

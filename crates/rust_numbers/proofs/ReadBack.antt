@@ -7,8 +7,8 @@ use Rattle.methylation.specs.declared.ConversionPattern.TheVariants.{CToT, GToA}
 use Rattle.duplex_molecule.specs.Molecule.{call_as}
 use Rattle.duplex_molecule.specs.declared.MoleculeCall.{MoleculeCall}
 use Rattle.std.proofs.Common.{None, Some, Option}
-use Rattle.methylation.specs.Choices.{pattern_of, wrong_pattern}
-use Rattle.rust_numbers.specs.Replies.{pattern_number, call_reply}
+use Rattle.methylation.specs.Choices.{pattern_number, pattern_of, wrong_pattern}
+use Rattle.rust_numbers.specs.Replies.{call_reply}
 use Rattle.rust_numbers.specs.ReadBack.{call_back, ReadBack}
 
 pattern_back : (x : ConversionPattern) → (wrong_pattern (pattern_number x) ≡ false) × (pattern_of (pattern_number x) ≡ x)

@@ -5,11 +5,11 @@ use Rattle.methylation.specs.declared.ConversionPattern.{ConversionPattern}
 use Rattle.methylation.specs.declared.PatternBases.{PatternBases}
 use Rattle.duplex_molecule.specs.declared.MoleculeCall.{MoleculeCall}
 use Rattle.duplex_molecule.specs.Molecule.{call_as}
-use Rattle.methylation.specs.Choices.{pattern_of, wrong_pattern}
+use Rattle.methylation.specs.Choices.{pattern_number, pattern_of, wrong_pattern}
 use Rattle.replies.specs.ReadBack.{AnswersBack}
 use Rattle.replies.specs.Replies.{count_reply}
 use Rattle.replies.specs.declared.Count.{Count}
-use Rattle.rust_numbers.specs.Replies.{pattern_number, bases_reply, letters_reply, call_reply}
+use Rattle.rust_numbers.specs.Replies.{bases_reply, letters_reply, call_reply}
 use Rattle.rust_numbers.specs.declared.Bases.{Bases}
 use Rattle.rust_numbers.specs.declared.Call.{Call}
 

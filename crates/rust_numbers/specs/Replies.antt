@@ -2,8 +2,7 @@
 use Rattle.std.specs.Prelude.{Result, Ok, Err, Float, ℕ, Bool, cond, Option, None, Some}
 use Rattle.std.specs.Float.{binary32}
 use Rattle.std.specs.Float.Ieee.{to_bits}
-use Rattle.methylation.specs.declared.ConversionPattern.{ConversionPattern}
-use Rattle.methylation.specs.declared.ConversionPattern.TheVariants.{CToT, GToA}
+use Rattle.methylation.specs.Choices.{pattern_number}
 use Rattle.methylation.specs.declared.PatternBases.{PatternBases}
 use Rattle.duplex_molecule.specs.declared.MoleculeCall.{MoleculeCall}
 use Rattle.replies.specs.Replies.{no_number, numbered}
@@ -16,11 +15,6 @@ use Rattle.rust_numbers.specs.declared.Call.{Call}
 -- 0: no; 1: yes.
 abbrev pub bit : Bool → ℕ
 bit met = cond met 1 0
-
--- 1: C to T; 2: G to A.
-abbrev pub pattern_number : ConversionPattern → ℕ
-pattern_number CToT = 1
-pattern_number GToA = 2
 
 -- The rate's bits.
 abbrev pub rate_reply : Result Float Refusal → Number

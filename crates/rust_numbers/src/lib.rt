@@ -10,12 +10,12 @@ ghost use Rattle.caller.specs.Short.{short, short_of};
 ghost use Rattle.caller.specs.Name.{read_name, name_refused};
 ghost use Rattle.caller.specs.Rate.{error_rate};
 ghost use Rattle.methylation.specs.Methylation.{is_enabled, pattern_of_flags, pattern_bases, is_cpg_context};
-ghost use Rattle.methylation.specs.Choices.{pattern_in, mode_in, pattern_of, wrong_pattern, mode_of, wrong_mode};
+ghost use Rattle.methylation.specs.Choices.{pattern_number, pattern_in, mode_in, pattern_of, wrong_pattern, mode_of, wrong_mode};
 ghost use Rattle.replies.specs.Choices.{yes};
 ghost use Rattle.replies.specs.Replies.{count_reply, number_reply, no_number, numbered};
 ghost use Rattle.duplex_reads.specs.Reads.{is_paired, is_paired_r1, is_paired_r2};
 ghost use Rattle.duplex_molecule.specs.Molecule.{is_error, molecule_call};
-ghost use Rattle.rust_numbers.specs.Replies.{bit, pattern_number, rate_reply, no_bases, bases_reply, letters_reply, call_reply};
+ghost use Rattle.rust_numbers.specs.Replies.{bit, rate_reply, no_bases, bases_reply, letters_reply, call_reply};
 
 use caller::{
     calculate_error_rate, clamp_combined_error_to_fgbio_short, clamp_per_base_to_fgbio_short,
@@ -39,6 +39,7 @@ pub struct Bases {
     pub converted: u8,
 }
 
+// The numbers are those that C sees.
 impl From<Result<PatternBases, Refusal>> for Bases {
     ghost from_gives = { λ letters reply. reply ≡ letters_reply letters };
 
@@ -69,17 +70,6 @@ pub struct Call {
     pub confirmed: u8,
 }
 
-// 1: C to T; 2: G to A.
-// The numbers are those that C sees.
-fn pattern_number(pattern: ConversionPattern) -> u8
-    ensures { result ≡ pattern_number pattern }
-{
-    match pattern {
-        ConversionPattern::CToT => 1,
-        ConversionPattern::GToA => 2,
-    }
-}
-
 #[unsafe(no_mangle)]
 pub extern "C" fn gedrashiw_cap_quality(score: u16) -> u8
     ensures { result ≡ capped_quality score }
@@ -108,8 +98,7 @@ pub extern "C" fn gedrashiw_rate_bits(errors: u32, depth: u32) -> u32
     rate_bits(errors, depth)
 }
 
-// The rate's bits.
-// A strand's rate by its bits.
+// The bits of a strand's rate.
 fn error_rate_bits(depths: &[u16], errors: &[u16]) -> Result<u32, Refusal>
     ensures { number_reply result ≡ rate_reply (error_rate depths.now errors.now) }
 {
@@ -144,11 +133,12 @@ pub extern "C" fn gedrashiw_is_enabled(mode: u8) -> Number
     Number::from(MethylationMode::try_from(mode).map(|mode| mode.is_enabled()))
 }
 
+// 1: C to T; 2: G to A.
 #[unsafe(no_mangle)]
 pub extern "C" fn gedrashiw_from_read_flags(read_flags: u16) -> u8
     ensures { result ≡ pattern_number (pattern_of_flags read_flags) }
 {
-    pattern_number(ConversionPattern::from_read_flags(read_flags))
+    ConversionPattern::from_read_flags(read_flags).number()
 }
 
 // The letters of a pattern. Refuses by 13.
@@ -194,13 +184,14 @@ pub extern "C" fn gedrashiw_is_error(source_base: u8, consensus_base: u8) -> u8
     u8::from(is_error(source_base, consensus_base))
 }
 
+// The numbers are those that C sees.
 impl From<Option<MoleculeCall>> for Call {
     ghost from_gives = { λ call reply. reply ≡ call_reply call };
 
     fn from(call: Option<MoleculeCall>) -> Call {
         match call {
             Some(call) => Call {
-                pattern: pattern_number(call.pattern),
+                pattern: call.pattern.number(),
                 call: call.call,
                 confirmed: call.confirmed,
             },

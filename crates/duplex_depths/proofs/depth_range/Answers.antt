@@ -9,7 +9,7 @@ use Rattle.duplex_depths.proofs.depth_range.Goals as goal
 
 pub returns : goal.returns
 returns c =
-    let a = c.args in
+    let a = c.args.r in
     let front = front_of _ _ c.write_combined.ensures (sub-zero a.positions ∙ sym (combined_length a.ab.now a.ba.now a.positions)) in
     let e : c.extremes.result ≡ extremes (combined_depths a.positions a.ab.now a.ba.now) = c.extremes.ensures ∙ ap extremes front in
     rw e (search rules)

@@ -1,12 +1,13 @@
--- `duplex_depths::write_combined` meets its contract: its four loops fill the output with the combined depths, one behind the other. Assumes
--- nothing.
-use mathlib.Core.Path.{◌≡◌}
+-- `duplex_depths::write_combined` meets its contract: its loop, the copy and the zeros stand one behind the other. Assumes nothing.
+use mathlib.Core.Path.{ap, sym, ◌∙◌}
+use mathlib.Core.List.{List}
+use Prim.Native.Nat.{ℕ, ◌+◌, ◌-◌}
 use native.Mathlib.Omega.{arith}
-use Rattle.lists.proofs.Output.{done}
+use lib.ListN.{length, get_or}
 use Rattle.lists.proofs.Told.{begin_table, next_table}
 use Rattle.numbers.specs.Numbers.{saturating_add}
 use Rattle.duplex_depths.specs.Depths.{combined_depths}
-use Rattle.duplex_depths.proofs.Depths.{first_alone, second_alone, neither}
+use Rattle.duplex_depths.proofs.Depths.{neither, longer_alone, longer_length, copied, filled, at_place, all_put}
 use Rattle.duplex_depths.proofs.write_combined.Goals as goal
 
 pub loop-i-init : goal.loop-i-init
@@ -17,30 +18,18 @@ unfolding saturating_add
 loop-i-preserved c =
     next_table _ _ c.loop-i.invariant (omega arith) c.saturating_add.ensures
 
-pub loop-i-2-preserved : goal.loop-i-2-preserved
-loop-i-2-preserved c =
-    let i = c.loop-i-2.i in
-    next_table _ _ c.loop-i-2.invariant (omega arith) (first_alone c.args.ab.now c.args.ba.now {i = i} (omega arith) (omega (arith, c.type_inv.ab i)))
-
-pub loop-i-3-init : goal.loop-i-3-init
-loop-i-3-init c =
-    let e : c.loop-i-2.i ≡ c.min-ab_end.result = omega arith in
-    rw e at c.loop-i-2.invariant
-
-pub loop-i-3-preserved : goal.loop-i-3-preserved
-loop-i-3-preserved c =
-    let i = c.loop-i-3.i in
-    next_table _ _ c.loop-i-3.invariant (omega arith) (second_alone c.args.ab.now c.args.ba.now {i = i} (omega arith) (omega (arith, c.type_inv.ba i)))
-
-pub loop-i-4-init : goal.loop-i-4-init
-loop-i-4-init c =
-    let e : c.loop-i-3.i ≡ c.max-longer.result = omega arith in
-    rw e at c.loop-i-3.invariant
-
-pub loop-i-4-preserved : goal.loop-i-4-preserved
-loop-i-4-preserved c =
-    next_table _ _ c.loop-i-4.invariant (omega arith) (neither c.args.ab.now c.args.ba.now {i = c.loop-i-4.i} (omega arith) (omega arith))
-
 pub returns : goal.returns
 unfolding combined_depths
-returns c = done c.loop-i-4.invariant (omega arith)
+returns c =
+    let a = c.args.r in
+    let n = a.positions in
+    let before = c.args.out.now in
+    let both = c.min-both.result in
+    let end = c.min-end.result in
+    let size = ap length c.longer-alone.ensures.is ∙ longer_length a.ab.now a.ba.now in
+    let looped = at_place n a.ab.now a.ba.now before {j = both} (omega arith) c.loop-i.invariant.so_far in
+    let alone = copied n a.ab.now a.ba.now before c.requires both (end - both) (omega (arith, size)) looped c.longer-alone.result.now (omega (arith, size))
+    (λ j h. ap (λ (xs : List ℕ). get_or xs (both + j) 0) c.longer-alone.ensures.is ∙ longer_alone n a.ab.now a.ba.now {i = both + j} (omega (arith, h, size)) (omega arith) (rw (sym c.longer-alone.ensures.is) (c.longer-alone.ensures.fits (both + j)))) c.copy.ensures in
+    all_put n a.ab.now a.ba.now before (omega arith)
+    (filled n a.ab.now a.ba.now before c.requires end (n - end) (omega arith) (at_place n a.ab.now a.ba.now before {j = end} (omega (arith, size)) alone)
+    (λ j h. neither a.ab.now a.ba.now {i = end + j} (omega (arith, h, size)) (omega (arith, h, size))) (c.fill.ensures.after (λ y h. h)))
