@@ -4,17 +4,18 @@
 --     roomy              row 12 does not refuse: there is room for n positions, and for evidence where it goes
 -- Assumes nothing.
 use mathlib.Core.Path.{◌≡◌, refl}
-use Rattle.std.proofs.Common.{Some, None}
-use mathlib.Core.Bool.{Bool, true, false, ◌&&◌, ◌||◌}
+use Rattle.std.proofs.Common.{Option, Some, None}
+use mathlib.Core.Bool.{true, false}
 use Prim.Native.Nat.{ℕ, ◌≤◌}
 use Rattle.lists.specs.Output.{put}
 use Rattle.refusals.specs.declared.Refusal.{Refusal}
 use Rattle.refusals.specs.Refusal.{too_short}
-use Rattle.refusals.proofs.Condition.{Every, nor_where, not_too_short}
-use Rattle.methylation.specs.Arrays.{three, PutsEvidence}
-use Rattle.methylation.proofs.Arrays.{evidence_refused, evidence_put}
-use Rattle.duplex_outputs.specs.Outputs.{RecordArrays, own_lengths, record_too_short, LeavesRecord}
-use Rattle.duplex_outputs.specs.declared.RecordLengths.{RecordLengths}
+use Rattle.refusals.proofs.Condition.{Every, neither, not_too_short}
+use Rattle.methylation.specs.Arrays.{three, evidence_lengths, evidence_too_short, PutsEvidence}
+use Rattle.methylation.specs.Methylation.{is_annotated}
+use Rattle.methylation.specs.declared.ConversionPattern.{ConversionPattern}
+use Rattle.methylation.proofs.Arrays.{evidence_refused, evidence_put, where_annotated}
+use Rattle.duplex_outputs.specs.Outputs.{RecordArrays, own_lengths, record_lengths, record_too_short, LeavesRecord}
 
 pub record_refused : (row : Refusal) (written before : RecordArrays) → LeavesRecord (Some row) written before before
 record_refused row written before = record {
@@ -43,19 +44,19 @@ record_passed p = record {
 }
 
 -- There is room for n positions, and for evidence where it goes.
-pub record Roomy (n : ℕ) (annotated_a annotated_b : Bool) (out : RecordLengths) : Type 0 where
-  pub own : Every (λ x. n ≤ x) (own_lengths out)
-  pub a : annotated_a ≡ true → Every (λ x. n ≤ x) (three out.a)
-  pub b : annotated_b ≡ true → Every (λ x. n ≤ x) (three out.b)
+pub record Roomy (n : ℕ) (for_a for_b : Option ConversionPattern) (out : RecordArrays) : Type 0 where
+  pub own : Every (λ x. n ≤ x) (own_lengths (record_lengths for_a for_b out))
+  pub a : is_annotated for_a ≡ true → Every (λ x. n ≤ x) (three (evidence_lengths out.a))
+  pub b : is_annotated for_b ≡ true → Every (λ x. n ≤ x) (three (evidence_lengths out.b))
 
-pub roomy : (n : ℕ) (annotated_a annotated_b : Bool) (out : RecordLengths) → record_too_short n annotated_a annotated_b out ≡ false → Roomy n annotated_a annotated_b out
-roomy n annotated_a annotated_b out h =
-    let a = too_short n (three out.a) in
-    let b = too_short n (three out.b) in
-    let (enough, others) = nor_where (too_short n (own_lengths out)) true ((annotated_a && a) || (annotated_b && b)) h in
-    let (first, second) = nor_where (annotated_a && a) annotated_b b (others refl) in
+pub roomy : (n : ℕ) (for_a for_b : Option ConversionPattern) (out : RecordArrays) → record_too_short n (record_lengths for_a for_b out) ≡ false → Roomy n for_a for_b out
+roomy n for_a for_b out h =
+    let own = own_lengths (record_lengths for_a for_b out) in
+    let (enough, others) = neither (too_short n own) _ h in
+    let (first, second) = neither _ _ others in
+    let test = evidence_too_short n in
     record {
-      own = not_too_short n (own_lengths out) enough;
-      a = λ e. not_too_short n (three out.a) ((nor_where false annotated_a a first).1 e);
-      b = λ e. not_too_short n (three out.b) (second e);
+      own = not_too_short n own enough;
+      a = λ e. not_too_short n (three (evidence_lengths out.a)) (where_annotated test for_a out.a first e);
+      b = λ e. not_too_short n (three (evidence_lengths out.b)) (where_annotated test for_b out.b second e);
     }

@@ -3,26 +3,53 @@
 #![tactic(auto)]
 
 ghost use Rattle.std.specs.Prelude.{◌≡◌};
+ghost use Rattle.duplex_outputs.specs.Lent.{lengths_beside};
 ghost use Rattle.duplex_outputs.specs.Outputs.{record_too_short};
 
 use methylation::{EvidenceLengths, evidence_too_short};
 
-// How many places each output has: the record's own, and those of the evidence of A and of B.
+// A record's own outputs. A function that is lent them leaves each slice where it is (specs/Lent.antt).
+// Those for the evidence of its strands stand beside this: of a struct that holds structs of lent slices, the check does not tell
+// who made it what the slices hold after a call.
+#[derive(Drop)]
+pub struct RecordOutputs<'a> {
+    pub bases: &'a mut [u8],
+    pub quals: &'a mut [u8],
+    pub errors: &'a mut [u16],
+}
+
+// How many places each output has: the record's own, and those of the evidence of A and of B, each where its strand is annotated:
+// without an annotation they are not looked at.
 #[derive(Clone, Copy)]
 pub struct RecordLengths {
     pub bases: usize,
     pub quals: usize,
     pub errors: usize,
-    pub a: EvidenceLengths,
-    pub b: EvidenceLengths,
+    pub a: Option<EvidenceLengths>,
+    pub b: Option<EvidenceLengths>,
 }
 
-// Row 12's condition for n positions. A strand's evidence counts where it is annotated.
-// Lengths alone are tested, so that of an annotation only whether there is one counts.
-pub fn record_too_short(n: usize, a_annotated: bool, b_annotated: bool, out: RecordLengths) -> bool
-    ensures { result ≡ record_too_short n a_annotated b_annotated out }
+// Row 12's condition for n positions.
+pub fn record_too_short(n: usize, out: RecordLengths) -> bool
+    ensures { result ≡ record_too_short n out }
 {
     let own = (out.bases < n) | ((out.quals < n) | (out.errors < n));
-    own | ((a_annotated & evidence_too_short(n, out.a))
-        | (b_annotated & evidence_too_short(n, out.b)))
+    let a = out.a.is_some_and(|e| evidence_too_short(n, e));
+    let b = out.b.is_some_and(|e| evidence_too_short(n, e));
+    own | (a | b)
+}
+
+impl RecordOutputs<'_> {
+    // Beside outputs for evidence that are so long, where they are looked at.
+    pub fn lengths(&self, a: Option<EvidenceLengths>, b: Option<EvidenceLengths>) -> RecordLengths
+        ensures { result ≡ lengths_beside self.now a b }
+    {
+        RecordLengths {
+            bases: self.bases.len(),
+            quals: self.quals.len(),
+            errors: self.errors.len(),
+            a,
+            b,
+        }
+    }
 }

@@ -13,55 +13,54 @@ use Rattle.refusals.specs.Refusal.{refused}
 use Rattle.refusals.specs.Outcome.{answer}
 use Rattle.refusals.proofs.Claims.{none_lost}
 use Rattle.refusals.proofs.Outcome.{refused_by, passed_by}
-use Rattle.methylation.specs.Arrays.{evidence_lengths}
+use Rattle.methylation.specs.Arrays.{evidence_places}
 use Rattle.methylation.specs.Methylation.{is_annotated}
 use Rattle.methylation.specs.declared.ConversionPattern.{ConversionPattern}
-use Rattle.methylation.specs.declared.EvidenceLengths.{EvidenceLengths}
+use Rattle.duplex_outputs.specs.declared.RecordLengths.{RecordLengths}
 use Rattle.vanilla_caller.specs.Strand.{Arrays, lengths}
 use Rattle.vanilla_caller.specs.declared.Lengths.{Lengths}
 use Rattle.vanilla_caller.proofs.Strand.{even}
 use Rattle.duplex_outputs.specs.Outputs.{RecordArrays, record_lengths}
-use Rattle.duplex_outputs.specs.declared.RecordLengths.{RecordLengths}
 use Rattle.duplex_outputs.proofs.Outputs.{roomy, record_refused, record_passed, PutsRecord}
 use Rattle.duplex_single.specs.Single.{single_arrays, single_faults, single_refused, SingleAs}
 
-module _ (annotation : Option ConversionPattern) (s : Lengths) (out : RecordLengths) where
+module _ (annotation : Option ConversionPattern) (s : Arrays) (out : RecordArrays) where
   -- How many places of evidence are written.
   abbrev pub places : ℕ
-  places = cond (is_annotated annotation) s.bases 0
+  places = evidence_places annotation (length s.bases)
 
   pub record Room : Type 0 where
-    pub bases : s.bases ≤ out.bases
-    pub quals : s.quals ≤ out.quals
-    pub errors : s.errors ≤ out.errors
-    pub marks : (places ≤ s.evidence.marks) × (places ≤ out.a.marks)
-    pub unconverted : (places ≤ s.evidence.unconverted) × (places ≤ out.a.unconverted)
-    pub converted : (places ≤ s.evidence.converted) × (places ≤ out.a.converted)
+    pub bases : length s.bases ≤ length out.bases
+    pub quals : length s.quals ≤ length out.quals
+    pub errors : length s.errors ≤ length out.errors
+    pub marks : (places ≤ length s.evidence.marks) × (places ≤ length out.a.marks)
+    pub unconverted : (places ≤ length s.evidence.unconverted) × (places ≤ length out.a.unconverted)
+    pub converted : (places ≤ length s.evidence.converted) × (places ≤ length out.a.converted)
 
-  places_fit : (b : Bool) (x : ℕ) → (b ≡ true → s.bases ≤ x) → cond b s.bases 0 ≤ x
-  places_fit true x h = h refl
-  places_fit false x h = omega arith
+  places_fit : (b : Bool) (n x : ℕ) → (b ≡ true → n ≤ x) → cond b n 0 ≤ x
+  places_fit true n x h = h refl
+  places_fit false n x h = omega arith
 
-  room : refused (single_faults annotation s out) ≡ None → Room
+  room : single_refused annotation s out ≡ None → Room
   room z =
-      let clear = none_lost (single_faults annotation s out) z in
-      let annotated = is_annotated annotation in
-      let same = even annotated s clear.1.0 in
-      let enough = roomy s.bases annotated false out clear.1.1.0 in
+      let n = length s.bases in
+      let clear = none_lost (single_faults (lengths annotation s) (record_lengths annotation None out)) z in
+      let same = even annotation s clear.1.0 in
+      let enough = roomy n annotation None out clear.1.1.0 in
       let there = same.evidence in
       let lent = enough.a in
+      let fit = places_fit (is_annotated annotation) n in
       record {
         bases = enough.own.0;
         quals = omega (arith, same.own.0, enough.own.1.0);
         errors = omega (arith, same.own.1.1.0, enough.own.1.1.0);
-        marks = (places_fit annotated s.evidence.marks (λ k. omega (arith, (there k).0)), places_fit annotated out.a.marks (λ k. (lent k).0));
-        unconverted = (places_fit annotated s.evidence.unconverted (λ k. omega (arith, (there k).1.0)), places_fit annotated out.a.unconverted (λ k. (lent k).1.0));
-        converted = (places_fit annotated s.evidence.converted (λ k. omega (arith, (there k).1.1.0)), places_fit annotated out.a.converted (λ k. (lent k).1.1.0));
+        marks = (fit _ (λ k. omega (arith, (there k).0)), fit _ (λ k. (lent k).0));
+        unconverted = (fit _ (λ k. omega (arith, (there k).1.0)), fit _ (λ k. (lent k).1.0));
+        converted = (fit _ (λ k. omega (arith, (there k).1.1.0)), fit _ (λ k. (lent k).1.1.0));
       }
 
--- By the lengths that the code has of the strand and of its evidence's outputs.
-module _ (annotation : Option ConversionPattern) (s : Arrays) (before : RecordArrays) {t : Lengths} {e : EvidenceLengths} {r : Result (Unit {0}) Refusal} (long : t ≡ lengths s) (lent : e ≡ evidence_lengths before.a)
-    (tested : r ≡ answer (refused (single_faults annotation t (record { bases = length before.bases; quals = length before.quals; errors = length before.errors; a = e; b = evidence_lengths before.b }))) tt) where
+-- By the lengths that the code has of the strand and of its outputs.
+module _ (annotation : Option ConversionPattern) (s : Arrays) (before : RecordArrays) {t : Lengths} {out : RecordLengths} {r : Result (Unit {0}) Refusal} (long : t ≡ lengths annotation s) (lent : out ≡ record_lengths annotation None before) (tested : r ≡ answer (refused (single_faults t out)) tt) where
   by_arrays : r ≡ answer (single_refused annotation s before) tt
   by_arrays = rw (long, lent) at tested
 
@@ -74,8 +73,8 @@ module _ (annotation : Option ConversionPattern) (s : Arrays) (before : RecordAr
     passed : single_refused annotation s before ≡ None
     passed = (passed_by _ tt (sym by_arrays ∙ h)).0
 
-    pub has_room : Room annotation (lengths s) (record_lengths before)
-    has_room = room annotation (lengths s) (record_lengths before) passed
+    pub has_room : Room annotation s before
+    has_room = room annotation s before passed
 
     pub written : {now : RecordArrays} → PutsRecord (single_arrays annotation s) before now → SingleAs annotation s before now (Ok (length s.bases))
     written puts = record { answered = rw passed; outputs = rw passed (record_passed puts) }

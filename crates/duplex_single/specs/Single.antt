@@ -1,5 +1,5 @@
 -- One strand alone as a record, document 01: its arrays copied untruncated, evidence cleared where not informative.
-use Rattle.std.specs.Prelude.{Option, Result, ℕ, ◌≡◌, false, List, [], ◌∷◌, length}
+use Rattle.std.specs.Prelude.{None, Option, Result, ℕ, ◌≡◌, List, [], ◌∷◌, length}
 use Rattle.refusals.specs.declared.Refusal.{Refusal}
 use Rattle.refusals.specs.declared.Refusal.TheVariants.{TooLong, Ragged, OutputTooShort}
 use Rattle.refusals.specs.Refusal.{Fault, ◌if◌, refused}
@@ -23,16 +23,16 @@ single_arrays annotation s = record {
   b = evidence_arrays [] [] [];
 }
 
--- The strand's annotation, the lengths of its arrays, and those of the outputs.
-abbrev pub single_faults : Option ConversionPattern → Lengths → RecordLengths → List Fault
-single_faults annotation s out =
-    (TooLong if strand_too_long (is_annotated annotation) s)
-    ∷ (Ragged if strand_ragged (is_annotated annotation) s)
-    ∷ (OutputTooShort if record_too_short s.bases (is_annotated annotation) false out)
+-- By the lengths of its arrays, and those of the outputs.
+abbrev pub single_faults : Lengths → RecordLengths → List Fault
+single_faults s out =
+    (TooLong if strand_too_long s)
+    ∷ (Ragged if strand_ragged s)
+    ∷ (OutputTooShort if record_too_short s.bases out)
     ∷ []
 
 abbrev pub single_refused : Option ConversionPattern → Arrays → RecordArrays → Option Refusal
-single_refused annotation s out = refused (single_faults annotation (lengths s) (record_lengths out))
+single_refused annotation s out = refused (single_faults (lengths annotation s) (record_lengths annotation None out))
 
 -- What a call of `gated_single_strand` answers and leaves in its outputs.
 pub record SingleAs (annotation : Option ConversionPattern) (s : Arrays) (before now : RecordArrays) (r : Result ℕ Refusal) : Type 0 where

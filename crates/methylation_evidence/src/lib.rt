@@ -7,14 +7,16 @@ ghost use Rattle.std.specs.Prelude.{◌≡◌, map, length, take};
 ghost use Rattle.lists.specs.Output.{put};
 ghost use Rattle.refusals.specs.Outcome.{answer, after};
 ghost use Rattle.vanilla_caller.specs.Strand.{mark};
-ghost use Rattle.methylation.specs.Arrays.{evidence_arrays, evidence_in};
+ghost use Rattle.methylation.specs.Arrays.{evidence_in};
+ghost use Rattle.methylation.specs.Outputs.{evidence_out, SameEvidence};
 ghost use Rattle.methylation_evidence.specs.Counts.{tag_count, tag_counts, counts_refused, summed_counts, summed_refused};
 ghost use Rattle.methylation_evidence.specs.Gate.{GatedAs};
 ghost use Rattle.methylation_evidence.specs.Truncate.{TruncatedAs};
 
 use lists::{copy, front, get_or};
 use methylation::{
-    EvidenceSlices, evidence_if, evidence_ragged, evidence_too_long, evidence_too_short,
+    EvidenceOutputs, EvidenceSlices, evidence_if, evidence_ragged, evidence_too_long,
+    evidence_too_short,
 };
 use refusals::{MAX_POSITIONS, Refusal, refuse};
 use vanilla_caller::mark_of;
@@ -24,26 +26,18 @@ pub const MAX_TAG_COUNT: u32 = 32767;
 
 // Clears the evidence (mark 0, both counts 0) at each position that is not informative; other marks become 1. Answers how many
 // positions there are. Refuses by 7, 8.
-// Lent outputs stay apart: the borrow checker has no rule for a struct of them that is passed on.
-pub fn gate_to_informative(
-    marks: &mut [u8],
-    unconverted: &mut [u32],
-    converted: &mut [u32],
-) -> Result<usize, Refusal>
-    ensures { GatedAs
-        (evidence_arrays marks.old unconverted.old converted.old)
-        (evidence_arrays marks.new unconverted.new converted.new)
-        result }
+pub fn gate_to_informative(out: &mut EvidenceOutputs<'_>) -> Result<usize, Refusal>
+    ensures same_references { SameEvidence out.old out.new }
+    ensures gated { GatedAs (evidence_out out.old) (evidence_out out.new) result }
 {
-    let lengths = EvidenceSlices {
-        marks,
-        unconverted,
-        converted,
-    }
-    .lengths();
+    let lengths = out.lengths();
     refuse(evidence_too_long(lengths), Refusal::TooLong)?;
     refuse(evidence_ragged(lengths), Refusal::Ragged)?;
+    let marks = &mut *out.marks;
+    let unconverted = &mut *out.unconverted;
+    let converted = &mut *out.converted;
     let n = marks.len();
+    // By index: all three arrays are read and written at the same place.
     for i in 0..n {
         let evidence = evidence_if(marks[i] != 0, unconverted[i], converted[i]);
         marks[i] = evidence.mark;
@@ -58,6 +52,7 @@ pub fn copy_marks(marks: &[u8], out: &mut [u8])
     ensures { out.new ≡ put (take (length out.old) (map mark marks.now)) out.old }
 {
     let n = out.len().min(marks.len());
+    // By index: a loop over the first n marks would cut them, and index the output all the same.
     for i in 0..n {
         out[i] = mark_of(marks[i]);
     }
@@ -65,34 +60,23 @@ pub fn copy_marks(marks: &[u8], out: &mut [u8])
 
 // Writes the first len positions of an annotation, or all where it has no more, with marks as 0 or 1, and answers how many.
 // Refuses by 7, 8, 12.
-// Lent outputs stay apart: the borrow checker has no rule for a struct of them that is passed on.
 pub fn truncate(
     evidence: EvidenceSlices<'_>,
     len: usize,
-    marks_out: &mut [u8],
-    unconverted_out: &mut [u32],
-    converted_out: &mut [u32],
+    out: &mut EvidenceOutputs<'_>,
 ) -> Result<usize, Refusal>
-    ensures { TruncatedAs
-        (evidence_in evidence.entry)
-        len
-        (evidence_arrays marks_out.old unconverted_out.old converted_out.old)
-        (evidence_arrays marks_out.new unconverted_out.new converted_out.new)
-        result }
+    ensures same_references { SameEvidence out.old out.new }
+    ensures truncated { TruncatedAs (evidence_in evidence.entry) len (evidence_out out.old) (evidence_out out.new) result }
 {
-    let out = EvidenceSlices {
-        marks: marks_out,
-        unconverted: unconverted_out,
-        converted: converted_out,
-    }
-    .lengths();
+    let room = out.lengths();
     let n = len.min(evidence.marks.len());
     refuse(evidence_too_long(evidence.lengths()), Refusal::TooLong)?;
     refuse(evidence_ragged(evidence.lengths()), Refusal::Ragged)?;
-    refuse(evidence_too_short(n, out), Refusal::OutputTooShort)?;
-    copy_marks(front(evidence.marks, len), marks_out);
-    copy(front(evidence.unconverted, len), unconverted_out);
-    copy(front(evidence.converted, len), converted_out);
+    refuse(evidence_too_short(n, room), Refusal::OutputTooShort)?;
+    let within = evidence.front(len);
+    copy_marks(within.marks, out.marks);
+    copy(within.unconverted, out.unconverted);
+    copy(within.converted, out.converted);
     Ok(n)
 }
 
@@ -103,35 +87,23 @@ fn tag_count(count: u32) -> u16
     count.min(MAX_TAG_COUNT) as u16
 }
 
+// The counts of an annotation, unconverted or converted, each held to 32,767. Answers how many. Refuses by 7, 12.
 #[tactic(auto, using(lists::proofs::Output::begin, lists::proofs::Output::next, crate::proofs::Counts::counts_length, crate::proofs::Counts::count_at))]
-fn counts_of(counts: &[u32], out: &mut [u16]) -> Result<usize, Refusal>
+pub fn tag_counts(counts: &[u32], out: &mut [u16]) -> Result<usize, Refusal>
     ensures value { result ≡ answer (counts_refused counts.now out.old) (length counts.now) }
     ensures out_after { out.new ≡ after (counts_refused counts.now out.old) (tag_counts counts.now) out.old }
 {
     let n = counts.len();
     refuse(MAX_POSITIONS < n, Refusal::TooLong)?;
     refuse(out.len() < n, Refusal::OutputTooShort)?;
-    for i in 0..n {
-        out[i] = tag_count(counts[i]);
+    for (i, &count) in counts.iter().enumerate() {
+        out[i] = tag_count(count);
     }
     Ok(n)
 }
 
-// The unconverted counts of an annotation, each held to 32,767 (cu, au, bu). Answers how many. Refuses by 7, 12.
-pub fn unconverted_counts(unconverted: &[u32], out: &mut [u16]) -> Result<usize, Refusal>
-    ensures value { result ≡ answer (counts_refused unconverted.now out.old) (length unconverted.now) }
-    ensures out_after { out.new ≡ after (counts_refused unconverted.now out.old) (tag_counts unconverted.now) out.old }
-{
-    counts_of(unconverted, out)
-}
-
-// The converted counts of an annotation, each held to 32,767 (ct, at, bt). Answers how many. Refuses by 7, 12.
-pub fn converted_counts(converted: &[u32], out: &mut [u16]) -> Result<usize, Refusal>
-    ensures value { result ≡ answer (counts_refused converted.now out.old) (length converted.now) }
-    ensures out_after { out.new ≡ after (counts_refused converted.now out.old) (tag_counts converted.now) out.old }
-{
-    counts_of(converted, out)
-}
+// Of the unconverted ones (cu, au, bu), and of the converted ones (ct, at, bt).
+pub use self::{tag_counts as converted_counts, tag_counts as unconverted_counts};
 
 // The unconverted, or the converted, counts of two annotations summed over a sequence of so many positions: each sum held to
 // 4,294,967,295, and then to 32,767. An array that ends before a position counts 0 there, an empty one everywhere. Answers how
@@ -150,6 +122,7 @@ pub fn summed_counts(
         | ((MAX_POSITIONS < a.len()) | (MAX_POSITIONS < b.len()));
     refuse(too_long, Refusal::TooLong)?;
     refuse(out.len() < positions, Refusal::OutputTooShort)?;
+    // By index: either array may end before the position.
     for i in 0..positions {
         out[i] = tag_count(get_or(a, i, 0).saturating_add(get_or(b, i, 0)));
     }

@@ -1,9 +1,7 @@
 -- Laws of restoring, by position.
---     restored_here, kept_here         one base, by the outcome of its test
 --     restored_length                  how many bases
 --     restored_copy                    what restoring a copy leaves in the output
 --     strand_absent, strand_of_lem     a strand without an annotation, and with one
---     strand_room                      what holds where a strand is not refused
 -- Assumes nothing.
 use mathlib.Core.Path.{◌≡◌, ap}
 use mathlib.Core.List.{List}
@@ -21,11 +19,9 @@ use Rattle.std.proofs.Common.{None, Some, Option}
 
 module _ (letters : PatternBases) (marks bases : List ℕ) where
   pub restored_length : (n : ℕ) → length (restored_to n letters marks bases) ≡ n
-  unfolding restored_to
   restored_length n = length_tabulate n (restored_at letters marks bases)
 
   restored_front : (out : List ℕ) → restored_to (length bases) letters marks (put bases out) ≡ restored_to (length bases) letters marks bases
-  unfolding restored_to
   restored_front out =
       tabulate_equal (length bases) (restored_at letters marks (put bases out)) (restored_at letters marks bases)
       (λ i h. ap (restored_base letters (get_or marks i 0)) (get_d_put bases out i 0 h))
@@ -39,9 +35,7 @@ module _ (letters : PatternBases) (marks bases : List ℕ) where
 
 module _ (marks bases : List ℕ) where
   pub strand_absent : {annotation : Option ConversionPattern} → annotation ≡ None → bases ≡ strand_bases annotation marks bases
-  unfolding strand_bases
   strand_absent e = rw e
 
   pub strand_of_lem : {annotation : Option ConversionPattern} {pattern : ConversionPattern} → annotation ≡ Some pattern → restored pattern marks bases ≡ strand_bases annotation marks bases
-  unfolding strand_bases
   strand_of_lem e = rw e

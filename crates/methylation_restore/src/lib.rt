@@ -26,9 +26,8 @@ fn restore(bases: &mut [u8], letters: PatternBases, marks: &[u8])
     requires { length marks.now ≤ length bases.old }
     ensures { bases.new ≡ put (restored_to (length marks.now) letters marks.now bases.old) bases.old }
 {
-    let n = marks.len();
-    for i in 0..n {
-        bases[i] = restored_base(letters, marks[i], bases[i]);
+    for (i, &mark) in marks.iter().enumerate() {
+        bases[i] = restored_base(letters, mark, bases[i]);
     }
 }
 

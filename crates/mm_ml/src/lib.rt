@@ -30,6 +30,13 @@ pub struct AnnotatedBases<'a> {
     pub evidence: EvidenceSlices<'a>,
 }
 
+// A strand that no row refuses: evidence for each base, and at most 1,024 of them.
+#[derive(Clone, Copy)]
+struct EvidentBases<'a> {
+    strand: AnnotatedBases<'a>,
+    ghost evident: { Evident (annotated_in strand) },
+}
+
 // How many bytes a strand's MM text and ML array have.
 #[derive(Clone, Copy)]
 pub struct TagLengths {
@@ -47,22 +54,8 @@ pub fn mm_prefix(pattern: ConversionPattern) -> [u8; 4]
     }
 }
 
-// Whether the base at a position is called.
-#[tactic(auto, unfolding(crate::specs::Tags::called_at))]
-fn called_at(s: AnnotatedBases<'_>, i: usize) -> bool
-    requires evident { Evident (annotated_in s) }
-    requires i_in_bounds { i < length s.bases.now }
-    ensures { result ≡ called_at (annotated_in s.entry) i }
-{
-    let evidence = Evidence {
-        mark: s.evidence.marks[i],
-        unconverted: s.evidence.unconverted[i],
-        converted: s.evidence.converted[i],
-    };
-    is_called(s.pattern, s.bases[i], evidence)
-}
-
 // How many digits a skip count has.
+// By comparisons: `checked_ilog10` answers None for 0, which has a digit too, and looks up a power of ten in a table.
 #[tactic(auto, using(decimal::proofs::Decimal::length_one, decimal::proofs::Decimal::length_more))]
 fn skip_length(skip: usize) -> usize
     requires { skip < 1024 }
@@ -76,48 +69,7 @@ fn skip_length(skip: usize) -> usize
     }
 }
 
-// The length of the listed skip counts, and how many there are. A turn chooses between values and not between ways, since
-// whether a base is called cannot be foretold.
-fn listed_length(s: AnnotatedBases<'_>) -> TagLengths
-    requires { Evident (annotated_in s) }
-    ensures { Counted (annotated_in s.entry) result }
-{
-    let mut mm = 0;
-    let mut ml = 0;
-    let mut skip = 0;
-    for i in 0..s.bases.len() {
-        let called = called_at(s, i);
-        let listed = usize::from(called);
-        mm += listed * (1 + skip_length(skip));
-        ml += listed;
-        skip = if called {
-            0
-        } else {
-            skip + usize::from(is_tracked(s.pattern, s.bases[i]))
-        };
-    }
-    TagLengths { mm, ml }
-}
-
-// How many bytes the tags have. No tag in mode Disabled, or where nothing is called.
-fn tag_lengths(mode: MethylationMode, s: AnnotatedBases<'_>) -> Option<TagLengths>
-    requires { Evident (annotated_in s) }
-    ensures { result ≡ tag_lengths mode (annotated_in s.entry) }
-{
-    if !mode.is_enabled() {
-        return None;
-    }
-    let counts = listed_length(s);
-    if counts.ml == 0 {
-        return None;
-    }
-    Some(TagLengths {
-        mm: counts.mm + 5,
-        ml: counts.ml,
-    })
-}
-
-// A comma and a skip count at a place of mm; answers the place after them.
+// A comma and a skip count at a place of mm; answers the place after them. By slices, no `write!`: no heap.
 fn write_skip(mm: &mut [u8], at: usize, skip: usize) -> usize
     requires { at + length (44 ∷ decimal skip) ≤ length mm.old }
     ensures value { result ≡ at + length (44 ∷ decimal skip) }
@@ -128,29 +80,86 @@ fn write_skip(mm: &mut [u8], at: usize, skip: usize) -> usize
     next + write_decimal(skip as u64, &mut mm[next..])
 }
 
-// The group's text: the prefix, the listed skip counts and the semicolon; and the ML bytes.
-fn write_mm_ml(mode: MethylationMode, s: AnnotatedBases<'_>, mm: &mut [u8], ml: &mut [u8])
-    requires evident { Evident (annotated_in s) }
-    requires mm_fits { length (all_text (annotated_in s)) ≤ length mm.old }
-    requires ml_fits { length (all_calls (annotated_in s)) ≤ length ml.old }
-    ensures mm_after { mm.new ≡ put (all_text (annotated_in s.entry)) mm.old }
-    ensures ml_after { ml.new ≡ put (all_bytes mode (annotated_in s.entry)) ml.old }
-{
-    copy(&mm_prefix(s.pattern), mm);
-    let mut place = 4;
-    let mut count = 0;
-    let mut skip = 0;
-    for i in 0..s.bases.len() {
-        if called_at(s, i) {
-            place = write_skip(mm, place, skip);
-            ml[count] = ml_of(mode, s.evidence.unconverted[i], s.evidence.converted[i]);
-            count += 1;
-            skip = 0;
-        } else if is_tracked(s.pattern, s.bases[i]) {
-            skip += 1;
-        }
+impl EvidentBases<'_> {
+    // Whether the base at a position is called.
+    #[tactic(auto, unfolding(crate::specs::Tags::called_at))]
+    fn called_at(self, i: usize) -> bool
+        requires { i < length self.strand.bases.now }
+        ensures { result ≡ called_at (annotated_in self.entry.strand) i }
+    {
+        let s = self.strand;
+        let evidence = Evidence {
+            mark: s.evidence.marks[i],
+            unconverted: s.evidence.unconverted[i],
+            converted: s.evidence.converted[i],
+        };
+        is_called(s.pattern, s.bases[i], evidence)
     }
-    mm[place] = b';';
+
+    // The length of the listed skip counts, and how many there are. A turn chooses between values and not between ways, since
+    // whether a base is called cannot be foretold.
+    fn listed_length(self) -> TagLengths
+        ensures { Counted (annotated_in self.entry.strand) result }
+    {
+        let s = self.strand;
+        let mut mm = 0;
+        let mut ml = 0;
+        let mut skip = 0;
+        for (i, &base) in s.bases.iter().enumerate() {
+            let called = self.called_at(i);
+            let listed = usize::from(called);
+            mm += listed * (1 + skip_length(skip));
+            ml += listed;
+            skip = if called {
+                0
+            } else {
+                skip + usize::from(is_tracked(s.pattern, base))
+            };
+        }
+        TagLengths { mm, ml }
+    }
+
+    // How many bytes the tags have. No tag in mode Disabled, or where nothing is called.
+    fn tag_lengths(self, mode: MethylationMode) -> Option<TagLengths>
+        ensures { result ≡ tag_lengths mode (annotated_in self.entry.strand) }
+    {
+        if !mode.is_enabled() {
+            return None;
+        }
+        let counts = self.listed_length();
+        if counts.ml == 0 {
+            return None;
+        }
+        Some(TagLengths {
+            mm: counts.mm + 5,
+            ml: counts.ml,
+        })
+    }
+
+    // The group's text: the prefix, the listed skip counts and the semicolon; and the ML bytes.
+    fn write_mm_ml(self, mode: MethylationMode, mm: &mut [u8], ml: &mut [u8])
+        requires mm_fits { length (all_text (annotated_in self.strand)) ≤ length mm.old }
+        requires ml_fits { length (all_calls (annotated_in self.strand)) ≤ length ml.old }
+        ensures mm_after { mm.new ≡ put (all_text (annotated_in self.entry.strand)) mm.old }
+        ensures ml_after { ml.new ≡ put (all_bytes mode (annotated_in self.entry.strand)) ml.old }
+    {
+        let s = self.strand;
+        copy(&mm_prefix(s.pattern), mm);
+        let mut place = 4;
+        let mut count = 0;
+        let mut skip = 0;
+        for (i, &base) in s.bases.iter().enumerate() {
+            if self.called_at(i) {
+                place = write_skip(mm, place, skip);
+                ml[count] = ml_of(mode, s.evidence.unconverted[i], s.evidence.converted[i]);
+                count += 1;
+                skip = 0;
+            } else if is_tracked(s.pattern, base) {
+                skip += 1;
+            }
+        }
+        mm[place] = b';';
+    }
 }
 
 // A strand's MM text and ML bytes against the sequence, whose bases are restored already: how many of each are written, or no tag.
@@ -170,14 +179,15 @@ pub fn build_mm_ml_tags(
         Refusal::TooLong,
     )?;
     refuse(evidence_uneven(n, evidence), Refusal::Ragged)?;
-    let Some(needed) = tag_lengths(mode, s) else {
+    let evident = EvidentBases { strand: s };
+    let Some(needed) = evident.tag_lengths(mode) else {
         return Ok(None);
     };
     refuse(
         (mm.len() < needed.mm) | (ml.len() < needed.ml),
         Refusal::OutputTooShort,
     )?;
-    write_mm_ml(mode, s, mm, ml);
+    evident.write_mm_ml(mode, mm, ml);
     Ok(Some(needed))
 }
 

@@ -5,10 +5,11 @@
 ghost use Rattle.std.specs.Prelude.{◌≡◌, ◌+◌, ◌/◌, ◌≤◌, length, take};
 ghost use Rattle.std.proofs.lemmas.List.Edits.{sets};
 ghost use Rattle.lists.specs.Output.{put};
+ghost use Rattle.methylation.specs.Outputs.{SameEvidence};
 ghost use Rattle.molecule_evidence.specs.Evidence.{position_bytes, evidence_bytes, marks_of, counts_of, unconverted_of, converted_of};
 
 use lists::get_or;
-use methylation::{Evidence, EvidenceSlices};
+use methylation::{Evidence, EvidenceOutputs, EvidenceSlices};
 
 // The bytes of a position.
 pub const POSITION_BYTES: usize = 9;
@@ -35,15 +36,15 @@ fn read_counts(bytes: &[u8], offset: usize, counts: &mut [u32])
 }
 
 // Reads marks, unconverted and converted counts, of each as many as there is room for.
-// Lent outputs stay apart: the borrow checker has no rule for a struct of them that is passed on.
-pub fn read_evidence(bytes: &[u8], marks: &mut [u8], unconverted: &mut [u32], converted: &mut [u32])
-    ensures marks_after { marks.new ≡ put (take (length marks.old) (marks_of bytes.now)) marks.old }
-    ensures unconverted_after { unconverted.new ≡ put (take (length unconverted.old) (unconverted_of bytes.now)) unconverted.old }
-    ensures converted_after { converted.new ≡ put (take (length converted.old) (converted_of bytes.now)) converted.old }
+pub fn read_evidence(bytes: &[u8], out: &mut EvidenceOutputs<'_>)
+    ensures same_references { SameEvidence out.old out.new }
+    ensures marks { out.new.marks.now ≡ put (take (length out.old.marks.now) (marks_of bytes.now)) out.old.marks.now }
+    ensures unconverted { out.new.unconverted.now ≡ put (take (length out.old.unconverted.now) (unconverted_of bytes.now)) out.old.unconverted.now }
+    ensures converted { out.new.converted.now ≡ put (take (length out.old.converted.now) (converted_of bytes.now)) out.old.converted.now }
 {
-    read_marks(bytes, marks);
-    read_counts(bytes, 1, unconverted);
-    read_counts(bytes, 5, converted);
+    read_marks(bytes, out.marks);
+    read_counts(bytes, 1, out.unconverted);
+    read_counts(bytes, 5, out.converted);
 }
 
 // Writes a position's bytes from a place on.

@@ -17,7 +17,7 @@ use Rattle.refusals.proofs.Condition.{neither, not_ragged}
 use Rattle.refusals.proofs.Claims.{none_lost}
 use Rattle.dna.specs.Dna.{letter_n}
 use Rattle.vanilla_caller.specs.Strand.{Arrays, lengths}
-use Rattle.vanilla_padded.specs.Padding.{Padding, pad_to, padded_faults, padded_refused}
+use Rattle.vanilla_padded.specs.Padding.{Padding, kept, pad_to, padded_faults, padded_refused}
 use Rattle.duplex_metrics.specs.Metrics.{Input, no_calls, record_depth, record_depths, record_no_calls, is_no_call, metrics_of}
 use Rattle.duplex_metrics.specs.declared.MetricsRecord.{MetricsRecord}
 use Rattle.duplex_metrics.proofs.Returned.{record_is}
@@ -77,7 +77,7 @@ padded_no_calls n false v ds bases e = rw e (right_padded (n - length bases) v d
 -- A strand that `padded` takes has as many depths as bases.
 even : (annotation : Option ConversionPattern) (s : Arrays) (p : Padding) (out : Arrays) → padded_refused annotation s p out ≡ None → length s.depths ≡ length s.bases
 even annotation s p out e =
-    let ragged_none = (none_lost (padded_faults annotation (lengths s) p.new_length (lengths out)) e).1.0 in
+    let ragged_none = (none_lost (padded_faults (lengths annotation s) p.new_length (lengths (kept annotation (length s.bases) p.new_length) out)) e).1.0 in
     (not_ragged (length s.bases) (length s.quals ∷ length s.depths ∷ length s.errors ∷ []) (neither _ _ ragged_none).0).1.0
 
 pub padding_is_no_no_call : PaddingIsNoNoCall

@@ -2,14 +2,10 @@
 use Rattle.std.specs.Prelude.{None, Some, Option, Result, Ok, Err, ℕ}
 use Rattle.refusals.specs.declared.Refusal.{Refusal}
 use Rattle.refusals.specs.Refusal.{number_of}
+use Rattle.methylation.specs.Choices.{pattern_number}
 use Rattle.methylation.specs.declared.ConversionPattern.{ConversionPattern}
-use Rattle.methylation.specs.declared.ConversionPattern.TheVariants.{CToT, GToA}
 use Rattle.replies.specs.Replies.{no_number, numbered}
 use Rattle.replies.specs.declared.Number.{Number}
-
-abbrev pub pattern_number : ConversionPattern → ℕ
-pattern_number CToT = 1
-pattern_number GToA = 2
 
 abbrev pub annotation_number : Option ConversionPattern → ℕ
 annotation_number None = 0

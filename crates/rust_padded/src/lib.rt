@@ -8,34 +8,20 @@ ghost use Rattle.replies.specs.Choices.{yes};
 ghost use Rattle.replies.specs.Replies.{no_number, RepliedAs};
 ghost use Rattle.vanilla_caller.specs.Strand.{arrays};
 ghost use Rattle.vanilla_padded.specs.Padding.{padding, default_padding, PaddedAs};
-ghost use Rattle.rust_padded.specs.Answers.{pattern_number, annotation_number, padded_number};
+ghost use Rattle.rust_padded.specs.Answers.{annotation_number, padded_number};
 
 use dna::NO_CALL_BASE_LOWER;
-use methylation::{ConversionPattern, EvidenceSlices};
+use methylation::{ConversionPattern, EvidenceOutputs, EvidenceSlices};
 use phred::MIN_PHRED;
-use refusals::Refusal;
 use replies::{Number, annotation_in};
 use vanilla_caller::VanillaConsensusRead;
-use vanilla_padded::padded;
+use vanilla_padded::{StrandOutputs, padded};
 
-// The numbers are those that C sees.
-fn pattern_number(pattern: ConversionPattern) -> u32
-    ensures { result ≡ pattern_number pattern }
-{
-    match pattern {
-        ConversionPattern::CToT => 1,
-        ConversionPattern::GToA => 2,
-    }
-}
-
-// The numbers are those that C sees.
+// 0: none; else the pattern's number. The numbers are those that C sees.
 fn annotation_number(annotation: Option<ConversionPattern>) -> u32
     ensures { result ≡ annotation_number annotation }
 {
-    match annotation {
-        None => 0,
-        Some(pattern) => pattern_number(pattern),
-    }
+    annotation.map_or(0, |pattern| u32::from(pattern.number()))
 }
 
 // Adds positions to a strand, on the left where left is not 0; answers the annotation that it keeps. Refuses by 13, 7, 8, 11, 12.
@@ -69,9 +55,11 @@ pub extern "C" fn gedrashiw_padded(
         (arrays bases_out.new quals_out.new depths_out.new errors_out.new marks_out.new unconverted_out.new converted_out.new)
         result }
 {
+    // No `?`: a function that answers a Result would have this whole contract once more, and of an output that a closure takes along
+    // nothing is known where the closure is not called.
     let annotation = match annotation_in(annotation) {
         Ok(annotation) => annotation,
-        Err(refusal) => return Number::from(Err::<u32, Refusal>(refusal)),
+        Err(refusal) => return Number::from(refusal),
     };
     let strand = VanillaConsensusRead {
         bases,
@@ -85,19 +73,25 @@ pub extern "C" fn gedrashiw_padded(
             converted,
         },
     };
+    let mut out = StrandOutputs {
+        bases: bases_out,
+        quals: quals_out,
+        depths: depths_out,
+        errors: errors_out,
+    };
+    let mut evidence_out = EvidenceOutputs {
+        marks: marks_out,
+        unconverted: unconverted_out,
+        converted: converted_out,
+    };
     let kept = padded(
         strand,
         new_length,
         left != 0,
         base,
         qual,
-        bases_out,
-        quals_out,
-        depths_out,
-        errors_out,
-        marks_out,
-        unconverted_out,
-        converted_out,
+        &mut out,
+        &mut evidence_out,
     );
     Number::from(kept.map(annotation_number))
 }

@@ -11,7 +11,7 @@ ghost use Rattle.methylation_evidence.specs.Counts.{tag_counts, counts_refused, 
 ghost use Rattle.methylation_evidence.specs.Gate.{GatedAs};
 ghost use Rattle.methylation_evidence.specs.Truncate.{TruncatedAs};
 
-use methylation::EvidenceSlices;
+use methylation::{EvidenceOutputs, EvidenceSlices};
 use methylation_evidence::{
     converted_counts, gate_to_informative, summed_counts, truncate, unconverted_counts,
 };
@@ -46,7 +46,11 @@ pub extern "C" fn gedrashiw_gate_to_informative(
         (evidence_arrays marks.new unconverted.new converted.new)
         result }
 {
-    Count::from(gate_to_informative(marks, unconverted, converted))
+    Count::from(gate_to_informative(&mut EvidenceOutputs {
+        marks,
+        unconverted,
+        converted,
+    }))
 }
 
 // The first len positions of an annotation's evidence. Refuses by 7, 8, 12.
@@ -71,7 +75,12 @@ pub extern "C" fn gedrashiw_truncate(
         unconverted,
         converted,
     };
-    Count::from(truncate(evidence, len, marks_out, unconverted_out, converted_out))
+    let mut out = EvidenceOutputs {
+        marks: marks_out,
+        unconverted: unconverted_out,
+        converted: converted_out,
+    };
+    Count::from(truncate(evidence, len, &mut out))
 }
 
 // The unconverted counts as tags hold them. Refuses by 7, 12.

@@ -3,6 +3,7 @@
 --     fewer_places               positions that are not met need no store
 --     one_read_more              one more read, of counts that are a table
 --     filled                     places that are filled with one value
+--     one_added, flag_small      a flag as a number
 -- Assumes nothing.
 use mathlib.Core.Path.{◌≡◌, refl, sym, ap, ◌∙◌}
 use mathlib.Core.Bool.{Bool, true, false, cond}
@@ -11,6 +12,7 @@ use Prim.Native.Nat.{ℕ, ◌+◌, ◌<◌, ◌≤◌}
 use native.Mathlib.Omega.{arith}
 use borrow.Author.Tests.{ltb-true, ltb-false}
 use lib.Dec.{ltb}
+use mir.Val.{bool_byte}
 use lib.ListN.{length, take, drop, get_or, set, replicate, length-replicate}
 use lib.Seq.{ext_get_or, length-take-le}
 use Rattle.lists.specs.Output.{put}
@@ -36,6 +38,15 @@ module _ {A : Type 0} (d : A) where
       let left = length_put (tabulate n f) xs (omega (arith, length_tabulate n f)) in
       let right = length_put (tabulate m g) ys (omega (arith, length_tabulate m g)) in
       ext_get_or d _ _ (left ∙ e ∙ sym right) (λ i l. each i)
+
+-- A flag is added as 1 or 0.
+pub one_added : (b : Bool) (n : ℕ) → n + bool_byte b ≡ cond b (n + 1) n
+one_added true n = refl
+one_added false n = omega arith
+
+pub flag_small : (b : Bool) → bool_byte b ≤ 1
+flag_small true = omega arith
+flag_small false = omega arith
 
 -- One more at a position that is met.
 abbrev more : (ℕ → Bool) → (ℕ → ℕ) → ℕ → ℕ

@@ -5,6 +5,7 @@
 use mathlib.Core.Path.{◌≡◌, refl, ◌∙◌}
 use mathlib.Core.Bool.{Bool, true, false, ◌&&◌}
 use mathlib.Core.List.{List}
+use Rattle.std.proofs.Common.{Some, None}
 use Prim.Native.Nat.{ℕ, ◌+◌, ◌-◌, ◌<◌, ◌≤◌, min}
 use native.Mathlib.Omega.{arith}
 use borrow.Author.Tests.{lt-ltb, le-ltb}
@@ -17,7 +18,7 @@ use Rattle.methylation.specs.declared.ConversionPattern.TheVariants.{CToT, GToA}
 use Rattle.methylation.specs.declared.PatternBases.{PatternBases}
 use Rattle.source_reads.specs.Reads.{read_leaves, reaches}
 use Rattle.source_reads.specs.declared.SourceRead.{SourceRead}
-use Rattle.simplex_methylation.specs.Simplex.{setting, is_letter, informative, base_is, is_aligned, looked, shown, added, AddedAs}
+use Rattle.simplex_methylation.specs.Simplex.{Setting, is_letter, informative, base_is, is_aligned, looked, shown, added, AddedAs}
 use Rattle.simplex_methylation.proofs.Counts.{fewer_places, by_place}
 
 never : (b : Bool) → (b && false) ≡ false
@@ -30,80 +31,81 @@ unfolding is_letter upper
 none_informative CToT = refl
 none_informative GToA = refl
 
-module _ (pattern : ConversionPattern) (bytes reference aligned : List ℕ) (read : SourceRead) where
+module _ (s : Setting) (read : SourceRead) where
   abbrev letter_of : ℕ
-  letter_of = (pattern_bases pattern).reference
+  letter_of = (pattern_bases s.pattern).reference
 
-  past_reference : (i : ℕ) → length reference ≤ i → looked letter_of reference aligned read.offset i ≡ false
-  unfolding looked informative
-  past_reference i h = rw (get_or-eq_default reference 0 {n = i} h, none_informative pattern)
+  module _ (aligned : List ℕ) where
+    past_reference : (i : ℕ) → length s.reference ≤ i → looked letter_of s.reference aligned read.offset i ≡ false
+    unfolding looked informative
+    past_reference i h = rw (get_or-eq_default s.reference 0 {n = i} h, none_informative s.pattern)
 
-  past_marks : (i : ℕ) → length aligned ≤ read.offset + i → looked letter_of reference aligned read.offset i ≡ false
-  unfolding looked is_aligned
-  past_marks i h = rw (get_or-eq_default aligned 0 {n = read.offset + i} h) (never (informative letter_of reference i))
+    past_marks : (i : ℕ) → length aligned ≤ read.offset + i → looked letter_of s.reference aligned read.offset i ≡ false
+    unfolding looked is_aligned
+    past_marks i h = rw (get_or-eq_default aligned 0 {n = read.offset + i} h) (never (informative letter_of s.reference i))
 
-  module _ (inside : read_leaves (length bytes) read ≡ false) where
-    reached : (i : ℕ) → i < read.length → reaches bytes i read ≡ true
+  module _ (inside : read_leaves (length s.bytes) read ≡ false) where
+    reached : (i : ℕ) → i < read.length → reaches s.bytes i read ≡ true
     unfolding reaches
     reached i h = rw (inside, lt-ltb i read.length h)
 
-    past_read : (i : ℕ) → read.length ≤ i → reaches bytes i read ≡ false
+    past_read : (i : ℕ) → read.length ≤ i → reaches s.bytes i read ≡ false
     unfolding reaches
     past_read i h = rw (inside, le-ltb i read.length h)
 
-    module _ (all : Bool) (n letter : ℕ) (xs : List ℕ) (room : n ≤ length xs) where
+    module _ (n letter : ℕ) (xs : List ℕ) (room : n ≤ length xs) where
       -- What is added by the definition.
       abbrev Whole : List ℕ
-      Whole = put (added n (λ i. shown (setting pattern bytes reference aligned all) letter i read) xs) xs
+      Whole = put (added n (λ i. shown s letter i read) xs) xs
 
-      in_everywhere : {places : ℕ} → all ≡ true → places ≡ min n read.length → put (added places (base_is letter bytes read.offset) xs) xs ≡ Whole
+      in_everywhere : {places : ℕ} → s.aligned ≡ None → places ≡ min n read.length → put (added places (base_is letter s.bytes read.offset) xs) xs ≡ Whole
       unfolding shown
       in_everywhere e p =
-          fewer_places (base_is letter bytes read.offset) _ xs (omega arith) room
+          fewer_places (base_is letter s.bytes read.offset) _ xs (omega arith) room
           (λ i l. rw (reached i (omega arith), e))
           (λ i o l. rw (past_read i (omega arith)))
 
       in_aligned :
-          {places reach : ℕ}
-          → all ≡ false
+          {places reach : ℕ} {aligned : List ℕ}
+          → s.aligned ≡ Some aligned
           → reach ≡ min n read.length
-          → places ≡ min (min reach (length reference)) (length aligned - read.offset)
-          → put (added places (λ i. looked letter_of reference aligned read.offset i && base_is letter bytes read.offset i) xs) xs ≡ Whole
+          → places ≡ min (min reach (length s.reference)) (length aligned - read.offset)
+          → put (added places (λ i. looked letter_of s.reference aligned read.offset i && base_is letter s.bytes read.offset i) xs) xs ≡ Whole
       unfolding shown
-      in_aligned e q p =
-          fewer_places (λ i. looked letter_of reference aligned read.offset i && base_is letter bytes read.offset i) _ xs (omega arith) room
+      in_aligned {aligned = aligned} e q p =
+          fewer_places (λ i. looked letter_of s.reference aligned read.offset i && base_is letter s.bytes read.offset i) _ xs (omega arith) room
           (λ i l. rw (reached i (omega arith), e))
           (λ i o l. by_place i read.length
-          (λ in_read. by_place i (length reference)
-          (λ in_reference. rw (e, past_marks i (omega arith)) (never (reaches bytes i read)))
-          (λ past. rw (e, past_reference i past) (never (reaches bytes i read))))
+          (λ in_read. by_place i (length s.reference)
+          (λ in_reference. rw (e, past_marks aligned i (omega arith)) (never (reaches s.bytes i read)))
+          (λ past. rw (e, past_reference aligned i past) (never (reaches s.bytes i read))))
           (λ past. rw (past_read i past)))
 
     -- The same for both counts. b are the letters that the code has.
     module _
-        (all : Bool) (n places : ℕ) (us cs : List ℕ) (us' cs' : List ℕ) {b : PatternBases}
-        (letters : b ≡ pattern_bases pattern) (roomᵘ : n ≤ length us) (roomᶜ : n ≤ length cs)
+        (n places : ℕ) (us cs : List ℕ) (us' cs' : List ℕ) {b : PatternBases}
+        (letters : b ≡ pattern_bases s.pattern) (roomᵘ : n ≤ length us) (roomᶜ : n ≤ length cs)
       where
         pub added_everywhere :
-            all ≡ true
+            s.aligned ≡ None
             → places ≡ min n read.length
-            → us' ≡ put (added places (base_is b.unconverted bytes read.offset) us) us
-            → cs' ≡ put (added places (base_is b.converted bytes read.offset) cs) cs
-            → AddedAs (setting pattern bytes reference aligned all) read n us cs us' cs'
+            → us' ≡ put (added places (base_is b.unconverted s.bytes read.offset) us) us
+            → cs' ≡ put (added places (base_is b.converted s.bytes read.offset) cs) cs
+            → AddedAs s read n us cs us' cs'
         added_everywhere e p u c = record {
-          unconverted_ones = rw letters at u ∙ in_everywhere all n _ us roomᵘ e p;
-          converted_ones = rw letters at c ∙ in_everywhere all n _ cs roomᶜ e p;
+          unconverted_ones = rw letters at u ∙ in_everywhere n _ us roomᵘ e p;
+          converted_ones = rw letters at c ∙ in_everywhere n _ cs roomᶜ e p;
         }
 
         pub added_aligned :
-            {reach : ℕ}
-            → all ≡ false
+            {reach : ℕ} {aligned : List ℕ}
+            → s.aligned ≡ Some aligned
             → reach ≡ min n read.length
-            → places ≡ min (min reach (length reference)) (length aligned - read.offset)
-            → us' ≡ put (added places (λ i. looked b.reference reference aligned read.offset i && base_is b.unconverted bytes read.offset i) us) us
-            → cs' ≡ put (added places (λ i. looked b.reference reference aligned read.offset i && base_is b.converted bytes read.offset i) cs) cs
-            → AddedAs (setting pattern bytes reference aligned all) read n us cs us' cs'
+            → places ≡ min (min reach (length s.reference)) (length aligned - read.offset)
+            → us' ≡ put (added places (λ i. looked b.reference s.reference aligned read.offset i && base_is b.unconverted s.bytes read.offset i) us) us
+            → cs' ≡ put (added places (λ i. looked b.reference s.reference aligned read.offset i && base_is b.converted s.bytes read.offset i) cs) cs
+            → AddedAs s read n us cs us' cs'
         added_aligned e q p u c = record {
-          unconverted_ones = simp letters at u ∙ in_aligned all n _ us roomᵘ e q p;
-          converted_ones = simp letters at c ∙ in_aligned all n _ cs roomᶜ e q p;
+          unconverted_ones = simp letters at u ∙ in_aligned n _ us roomᵘ e q p;
+          converted_ones = simp letters at c ∙ in_aligned n _ cs roomᶜ e q p;
         }

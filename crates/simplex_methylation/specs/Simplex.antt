@@ -1,5 +1,5 @@
 -- The methylation evidence of a simplex consensus, from its source reads and the reference: at each position a mark and two counts.
-use Rattle.std.specs.Prelude.{ℕ, ◌+◌, ◌<◌, ◌≡◌, Bool, cond, not, ◌&&◌, ◌||◌, Option, Result, List, [], ◌∷◌, eqb, length, get_or}
+use Rattle.std.specs.Prelude.{ℕ, ◌+◌, ◌<◌, ◌≡◌, Bool, true, cond, not, ◌&&◌, Option, Some, None, Result, List, [], ◌∷◌, eqb, length, get_or, option_map}
 use Rattle.lists.specs.Count.{count_of}
 use Rattle.lists.specs.Output.{put}
 use Rattle.lists.specs.Table.{tabulate}
@@ -17,21 +17,20 @@ use Rattle.source_reads.specs.Reads.{reaches, any_leaves}
 use Rattle.source_reads.specs.declared.SourceRead.{SourceRead}
 use Rattle.simplex_methylation.specs.declared.Common.{Common}
 
--- What all reads have in common: the pattern, the bytes of their bases, the reference bases by position, the bytes of their
--- alignment marks, and whether every position is counted.
+-- What all reads have in common: the pattern, the bytes of their bases, the reference bases by position, and the bytes of their
+-- alignment marks, or none where every position is counted.
 pub record Setting : Type 0 where
   pub pattern : ConversionPattern
   pub bytes : List ℕ
   pub reference : List ℕ
-  pub aligned : List ℕ
-  pub everywhere : Bool
+  pub aligned : Option (List ℕ)
 
 abbrev pub setting : ConversionPattern → List ℕ → List ℕ → List ℕ → Bool → Setting
-setting pattern bytes reference aligned everywhere = record { pattern = pattern; bytes = bytes; reference = reference; aligned = aligned; everywhere = everywhere }
+setting pattern bytes reference aligned everywhere = record { pattern = pattern; bytes = bytes; reference = reference; aligned = cond everywhere None (Some aligned) }
 
 -- That of the values lent for it.
 abbrev pub setting_in : Common → Setting
-setting_in c = setting c.pattern c.bytes.now c.reference.now c.aligned.now c.everywhere
+setting_in c = record { pattern = c.pattern; bytes = c.bytes.now; reference = c.reference.now; aligned = option_map (λ marks. marks.now) c.aligned }
 
 -- A base is a capital letter, or its lower case.
 unfoldable pub is_letter : ℕ → ℕ → Bool
@@ -53,11 +52,16 @@ is_aligned aligned offset i = not (eqb (get_or aligned (offset + i) 0) 0)
 unfoldable pub looked : ℕ → List ℕ → List ℕ → ℕ → ℕ → Bool
 looked letter reference aligned offset i = informative letter reference i && is_aligned aligned offset i
 
+-- It counts there whatever its base: by the marks, and everywhere without them.
+abbrev pub counts_at : Option (List ℕ) → ℕ → List ℕ → ℕ → ℕ → Bool
+counts_at None letter reference offset i = true
+counts_at (Some aligned) letter reference offset i = looked letter reference aligned offset i
+
 -- The read counts for a letter at position i: it has a base there, is looked at there or all positions are, and the base is the letter.
 unfoldable pub shown : Setting → ℕ → ℕ → SourceRead → Bool
 shown s letter i read =
     reaches s.bytes i read
-    && ((s.everywhere || looked (pattern_bases s.pattern).reference s.reference s.aligned read.offset i)
+    && (counts_at s.aligned (pattern_bases s.pattern).reference s.reference read.offset i
     && base_is letter s.bytes read.offset i)
 
 -- The marks of n positions, 1 where informative.

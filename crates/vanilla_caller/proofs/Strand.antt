@@ -4,18 +4,20 @@
 --     even, roomy        what rows 8 and 12 leave
 -- Assumes nothing.
 use mathlib.Core.Path.{◌≡◌, refl}
-use Rattle.std.proofs.Common.{Some, None}
-use mathlib.Core.Bool.{Bool, true, false}
+use Rattle.std.proofs.Common.{Option, Some, None}
+use mathlib.Core.Bool.{true, false}
 use mathlib.Core.List.{[], ◌∷◌}
 use Prim.Native.Nat.{ℕ, ◌≤◌}
+use lib.ListN.{length}
 use Rattle.lists.specs.Output.{put}
 use Rattle.refusals.specs.declared.Refusal.{Refusal}
 use Rattle.refusals.specs.Refusal.{ragged, too_short}
-use Rattle.refusals.proofs.Condition.{Every, nor_where, not_ragged, not_too_short}
-use Rattle.methylation.specs.Arrays.{three, evidence_uneven, PutsEvidence}
-use Rattle.methylation.proofs.Arrays.{evidence_refused, evidence_put, as_many_as}
-use Rattle.vanilla_caller.specs.Strand.{Arrays, four, strand_ragged, outputs_too_short, Leaves}
-use Rattle.vanilla_caller.specs.declared.Lengths.{Lengths}
+use Rattle.refusals.proofs.Condition.{Every, neither, not_ragged, not_too_short}
+use Rattle.methylation.specs.Arrays.{three, evidence_lengths, evidence_uneven, evidence_too_short, PutsEvidence}
+use Rattle.methylation.specs.Methylation.{is_annotated}
+use Rattle.methylation.specs.declared.ConversionPattern.{ConversionPattern}
+use Rattle.methylation.proofs.Arrays.{evidence_refused, evidence_put, as_many_as, where_annotated}
+use Rattle.vanilla_caller.specs.Strand.{Arrays, lengths, four, strand_ragged, outputs_too_short, Leaves}
 
 pub leaves_refused : (row : Refusal) (written before : Arrays) → Leaves (Some row) written before before
 leaves_refused row written before = record {
@@ -44,24 +46,29 @@ leaves_passed p = record {
 }
 
 -- All arrays are as long as the bases, the evidence's where there is an annotation.
-pub record Even (annotated : Bool) (s : Lengths) : Type 0 where
-  pub own : Every (λ x. x ≡ s.bases) (s.quals ∷ s.depths ∷ s.errors ∷ [])
-  pub evidence : annotated ≡ true → Every (λ x. x ≡ s.bases) (three s.evidence)
+pub record Even (annotation : Option ConversionPattern) (s : Arrays) : Type 0 where
+  pub own : Every (λ x. x ≡ length s.bases) (length s.quals ∷ length s.depths ∷ length s.errors ∷ [])
+  pub evidence : is_annotated annotation ≡ true → Every (λ x. x ≡ length s.bases) (three (evidence_lengths s.evidence))
 
-pub even : (annotated : Bool) (s : Lengths) → strand_ragged annotated s ≡ false → Even annotated s
-even annotated s h =
-    let (same, same_evidence) = nor_where (ragged (four s)) annotated (evidence_uneven s.bases s.evidence) h in
+pub even : (annotation : Option ConversionPattern) (s : Arrays) → strand_ragged (lengths annotation s) ≡ false → Even annotation s
+even annotation s h =
+    let n = length s.bases in
+    let (same, same_evidence) = neither (ragged (four (lengths annotation s))) _ h in
     record {
-      own = not_ragged s.bases (s.quals ∷ s.depths ∷ s.errors ∷ []) same;
-      evidence = λ k. as_many_as s.bases s.evidence (same_evidence k);
+      own = not_ragged n (length s.quals ∷ length s.depths ∷ length s.errors ∷ []) same;
+      evidence = λ k. as_many_as n (evidence_lengths s.evidence) (where_annotated (evidence_uneven n) annotation s.evidence same_evidence k);
     }
 
 -- There is room for n positions, and for evidence where it goes.
-pub record Roomy (n : ℕ) (annotated : Bool) (out : Lengths) : Type 0 where
-  pub own : Every (λ x. n ≤ x) (four out)
-  pub evidence : annotated ≡ true → Every (λ x. n ≤ x) (three out.evidence)
+pub record Roomy (n : ℕ) (annotation : Option ConversionPattern) (out : Arrays) : Type 0 where
+  pub own : Every (λ x. n ≤ x) (four (lengths annotation out))
+  pub evidence : is_annotated annotation ≡ true → Every (λ x. n ≤ x) (three (evidence_lengths out.evidence))
 
-pub roomy : (n : ℕ) (annotated : Bool) (out : Lengths) → outputs_too_short n annotated out ≡ false → Roomy n annotated out
-roomy n annotated out h =
-    let (wide, wide_evidence) = nor_where (too_short n (four out)) annotated (too_short n (three out.evidence)) h in
-    record { own = not_too_short n (four out) wide; evidence = λ k. not_too_short n (three out.evidence) (wide_evidence k) }
+pub roomy : (n : ℕ) (annotation : Option ConversionPattern) (out : Arrays) → outputs_too_short n (lengths annotation out) ≡ false → Roomy n annotation out
+roomy n annotation out h =
+    let own = four (lengths annotation out) in
+    let (wide, wide_evidence) = neither (too_short n own) _ h in
+    record {
+      own = not_too_short n own wide;
+      evidence = λ k. not_too_short n (three (evidence_lengths out.evidence)) (where_annotated (evidence_too_short n) annotation out.evidence wide_evidence k);
+    }

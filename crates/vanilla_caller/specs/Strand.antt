@@ -1,9 +1,11 @@
 -- A strand, document 01: bases, qualities, depths and errors, and perhaps an annotation.
-use Rattle.std.specs.Prelude.{ℕ, ◌≡◌, Bool, cond, ◌&&◌, ◌||◌, Option, List, [], ◌∷◌, eqb, length}
+use Rattle.std.specs.Prelude.{ℕ, ◌≡◌, Bool, false, cond, ◌||◌, Option, List, [], ◌∷◌, eqb, length}
+use Rattle.std.specs.Option.{option_map_or}
 use Rattle.refusals.specs.declared.Refusal.{Refusal}
 use Rattle.refusals.specs.Refusal.{too_long, ragged, too_short}
 use Rattle.refusals.specs.Outcome.{after}
-use Rattle.methylation.specs.Arrays.{EvidenceArrays, evidence_arrays, evidence_in, evidence_lengths, evidence_too_long, evidence_uneven, evidence_too_short, LeavesEvidence}
+use Rattle.methylation.specs.Arrays.{EvidenceArrays, evidence_arrays, evidence_in, annotated_lengths, evidence_too_long, evidence_uneven, evidence_too_short, LeavesEvidence}
+use Rattle.methylation.specs.declared.ConversionPattern.{ConversionPattern}
 use Rattle.vanilla_caller.specs.declared.Lengths.{Lengths}
 use Rattle.vanilla_caller.specs.declared.VanillaConsensusRead.{VanillaConsensusRead}
 
@@ -22,13 +24,14 @@ arrays b q d e m u c = record { bases = b; quals = q; depths = d; errors = e; ev
 abbrev pub arrays_in : VanillaConsensusRead → Arrays
 arrays_in r = record { bases = r.bases.now; quals = r.quals.now; depths = r.depths.now; errors = r.errors.now; evidence = evidence_in r.evidence }
 
-abbrev pub lengths : Arrays → Lengths
-lengths a = record {
+-- How long they are, with this annotation or none.
+abbrev pub lengths : Option ConversionPattern → Arrays → Lengths
+lengths annotation a = record {
   bases = length a.bases;
   quals = length a.quals;
   depths = length a.depths;
   errors = length a.errors;
-  evidence = evidence_lengths a.evidence;
+  evidence = annotated_lengths annotation a.evidence;
 }
 
 -- The arrays that every strand has.
@@ -36,16 +39,16 @@ abbrev pub four : Lengths → List ℕ
 four a = a.bases ∷ a.quals ∷ a.depths ∷ a.errors ∷ []
 
 -- Row 7's condition for a strand. Evidence counts where there is an annotation.
-abbrev pub strand_too_long : Bool → Lengths → Bool
-strand_too_long annotated s = too_long (four s) || (annotated && evidence_too_long s.evidence)
+abbrev pub strand_too_long : Lengths → Bool
+strand_too_long s = too_long (four s) || option_map_or evidence_too_long s.evidence false
 
 -- Row 8's.
-abbrev pub strand_ragged : Bool → Lengths → Bool
-strand_ragged annotated s = ragged (four s) || (annotated && evidence_uneven s.bases s.evidence)
+abbrev pub strand_ragged : Lengths → Bool
+strand_ragged s = ragged (four s) || option_map_or (evidence_uneven s.bases) s.evidence false
 
 -- Row 12's, for outputs to which a strand of n positions goes.
-abbrev pub outputs_too_short : ℕ → Bool → Lengths → Bool
-outputs_too_short n annotated out = too_short n (four out) || (annotated && evidence_too_short n out.evidence)
+abbrev pub outputs_too_short : ℕ → Lengths → Bool
+outputs_too_short n out = too_short n (four out) || option_map_or (evidence_too_short n) out.evidence false
 
 -- An informative mark as it is written.
 abbrev pub mark : ℕ → ℕ

@@ -1,6 +1,6 @@
 -- Padding a strand, document 01: positions are added left or right with a given base and quality, depth 0, error 0.
 -- Padding to the same length copies all; to more drops the annotation.
-use Rattle.std.specs.Prelude.{None, Option, Result, ℕ, ◌-◌, ◌≡◌, Bool, cond, ◌&&◌, ◌||◌, List, [], ◌∷◌, ◌++◌, map, eqb, ltb, length, replicate}
+use Rattle.std.specs.Prelude.{None, Option, Result, ℕ, ◌-◌, ◌≡◌, Bool, cond, ◌||◌, List, [], ◌∷◌, ◌++◌, map, eqb, ltb, length, replicate}
 use Rattle.lists.specs.Part.{only_if}
 use Rattle.refusals.specs.declared.Refusal.{Refusal}
 use Rattle.refusals.specs.declared.Refusal.TheVariants.{TooLong, Ragged, BelowLength, OutputTooShort}
@@ -36,15 +36,11 @@ module _ {A : Type 0} where
 abbrev pub kept : Option ConversionPattern → ℕ → ℕ → Option ConversionPattern
 kept annotation positions new_length = cond (eqb positions new_length) annotation None
 
--- Whether evidence is written.
-abbrev pub keeps : Option ConversionPattern → ℕ → ℕ → Bool
-keeps annotation positions new_length = is_annotated annotation && eqb positions new_length
-
--- What is written to each output.
+-- What is written to each output: evidence where the annotation is kept.
 abbrev pub padded_arrays : Option ConversionPattern → Arrays → Padding → Arrays
 padded_arrays annotation s p =
     let pad = pad_to p.new_length p.left in
-    let evidence = keeps annotation (length s.bases) p.new_length in
+    let evidence = is_annotated (kept annotation (length s.bases) p.new_length) in
     record {
       bases = pad p.base s.bases;
       quals = pad p.qual s.quals;
@@ -53,17 +49,19 @@ padded_arrays annotation s p =
       evidence = evidence_arrays (map mark (only_if evidence s.evidence.marks)) (only_if evidence s.evidence.unconverted) (only_if evidence s.evidence.converted);
     }
 
--- The strand's annotation and the lengths of its arrays, the length to pad to, and the lengths of the outputs.
-abbrev pub padded_faults : Option ConversionPattern → Lengths → ℕ → Lengths → List Fault
-padded_faults annotation s n out =
-    (TooLong if (too_long (n ∷ []) || strand_too_long (is_annotated annotation) s))
-    ∷ (Ragged if strand_ragged (is_annotated annotation) s)
+-- By the lengths of the strand's arrays, the length to pad to, and the lengths of the outputs.
+abbrev pub padded_faults : Lengths → ℕ → Lengths → List Fault
+padded_faults s n out =
+    (TooLong if (too_long (n ∷ []) || strand_too_long s))
+    ∷ (Ragged if strand_ragged s)
     ∷ (BelowLength if ltb n s.bases)
-    ∷ (OutputTooShort if outputs_too_short n (keeps annotation s.bases n) out)
+    ∷ (OutputTooShort if outputs_too_short n out)
     ∷ []
 
 abbrev pub padded_refused : Option ConversionPattern → Arrays → Padding → Arrays → Option Refusal
-padded_refused annotation s p out = refused (padded_faults annotation (lengths s) p.new_length (lengths out))
+padded_refused annotation s p out =
+    let n = p.new_length in
+    refused (padded_faults (lengths annotation s) n (lengths (kept annotation (length s.bases) n) out))
 
 -- What a call of `padded` answers and leaves in its outputs.
 pub record PaddedAs (annotation : Option ConversionPattern) (s : Arrays) (p : Padding) (before now : Arrays) (r : Result (Option ConversionPattern) Refusal) : Type 0 where

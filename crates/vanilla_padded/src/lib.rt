@@ -7,18 +7,46 @@ ghost use Rattle.lists.specs.Output.{put};
 ghost use Rattle.lists.specs.Part.{only_if};
 ghost use Rattle.refusals.specs.Refusal.{refused};
 ghost use Rattle.refusals.specs.Outcome.{answer};
-ghost use Rattle.vanilla_caller.specs.Strand.{arrays, arrays_in, mark};
+ghost use Rattle.methylation.specs.Methylation.{is_annotated};
+ghost use Rattle.methylation.specs.Outputs.{evidence_out, SameEvidence};
+ghost use Rattle.vanilla_caller.specs.Strand.{arrays_in, mark};
+ghost use Rattle.vanilla_padded.specs.Lent.{strand_out, lengths_beside, SameStrand};
 ghost use Rattle.vanilla_padded.specs.Padding.{padding, default_padding, pad_to, kept, padded_faults, PaddedAs};
 
 use dna::NO_CALL_BASE_LOWER;
 use lists::copy;
-use methylation::{ConversionPattern, EvidenceSlices};
+use methylation::{ConversionPattern, EvidenceLengths, EvidenceOutputs, EvidenceSlices};
 use methylation_evidence::copy_marks;
 use phred::MIN_PHRED;
 use refusals::{MAX_POSITIONS, Refusal, refuse};
 use vanilla_caller::{
     Lengths, VanillaConsensusRead, outputs_too_short, strand_ragged, strand_too_long,
 };
+
+// A strand's own outputs; those for its evidence stand beside them. A function that is lent them leaves each slice where it is
+// (specs/Lent.antt).
+#[derive(Drop)]
+pub struct StrandOutputs<'a> {
+    pub bases: &'a mut [u8],
+    pub quals: &'a mut [u8],
+    pub depths: &'a mut [u16],
+    pub errors: &'a mut [u16],
+}
+
+impl StrandOutputs<'_> {
+    // Beside outputs for evidence that are so long, where they are looked at.
+    fn lengths(&self, evidence: Option<EvidenceLengths>) -> Lengths
+        ensures { result ≡ lengths_beside self.now evidence }
+    {
+        Lengths {
+            bases: self.bases.len(),
+            quals: self.quals.len(),
+            depths: self.depths.len(),
+            errors: self.errors.len(),
+            evidence,
+        }
+    }
+}
 
 // The annotation of a strand of so many positions padded to new_length.
 fn kept_annotation(
@@ -36,6 +64,7 @@ fn kept_annotation(
 }
 
 // Writes an array with copies of a value added, on the left or the right, up to new_length.
+// `left` is the Rust's own parameter, here and in the calls.
 fn pad<T: Copy>(xs: &[T], new_length: usize, left: bool, value: T, out: &mut [T])
     requires fits { (length xs.now ≤ new_length) × (new_length ≤ length out.old) }
     requires infallible { T.is_infallible value }
@@ -53,45 +82,32 @@ fn pad<T: Copy>(xs: &[T], new_length: usize, left: bool, value: T, out: &mut [T]
     out[size..new_length].fill(value);
 }
 
-fn padded_refusal(
-    annotation: Option<ConversionPattern>,
-    strand: Lengths,
-    new_length: usize,
-    out: Lengths,
-) -> Result<(), Refusal>
-    ensures { result ≡ answer (refused (padded_faults annotation strand new_length out)) tt }
+fn padded_refusal(strand: Lengths, new_length: usize, out: Lengths) -> Result<(), Refusal>
+    ensures { result ≡ answer (refused (padded_faults strand new_length out)) tt }
 {
-    let annotated = annotation.is_some();
-    let positions = strand.bases;
-    let evidence = annotated & (positions == new_length);
-    let too_long = (MAX_POSITIONS < new_length) | strand_too_long(annotated, strand);
+    let too_long = (MAX_POSITIONS < new_length) | strand_too_long(strand);
     refuse(too_long, Refusal::TooLong)?;
-    refuse(strand_ragged(annotated, strand), Refusal::Ragged)?;
-    refuse(new_length < positions, Refusal::BelowLength)?;
-    refuse(
-        outputs_too_short(new_length, evidence, out),
-        Refusal::OutputTooShort,
-    )
+    refuse(strand_ragged(strand), Refusal::Ragged)?;
+    refuse(new_length < strand.bases, Refusal::BelowLength)?;
+    refuse(outputs_too_short(new_length, out), Refusal::OutputTooShort)
 }
 
-// As much of the evidence as there is room for, where it is kept.
-// Lent outputs stay apart: the borrow checker has no rule for a struct of them that is passed on.
+// As much of the evidence as there is room for, where the annotation is kept.
 #[tactic(auto, using(lists::proofs::Output::put_none), unfolding(lists::specs::Part::only_if))]
 fn write_evidence(
-    kept: bool,
+    kept: Option<ConversionPattern>,
     evidence: EvidenceSlices<'_>,
-    marks_out: &mut [u8],
-    unconverted_out: &mut [u32],
-    converted_out: &mut [u32],
+    out: &mut EvidenceOutputs<'_>,
 )
-    ensures marks_out { marks_out.new ≡ put (only_if kept (take (length marks_out.old) (map mark evidence.entry.marks.now))) marks_out.old }
-    ensures unconverted_out { unconverted_out.new ≡ put (only_if kept (take (length unconverted_out.old) evidence.entry.unconverted.now)) unconverted_out.old }
-    ensures converted_out { converted_out.new ≡ put (only_if kept (take (length converted_out.old) evidence.entry.converted.now)) converted_out.old }
+    ensures same_references { SameEvidence out.old out.new }
+    ensures marks { out.new.marks.now ≡ put (only_if (is_annotated kept) (take (length out.old.marks.now) (map mark evidence.entry.marks.now))) out.old.marks.now }
+    ensures unconverted { out.new.unconverted.now ≡ put (only_if (is_annotated kept) (take (length out.old.unconverted.now) evidence.entry.unconverted.now)) out.old.unconverted.now }
+    ensures converted { out.new.converted.now ≡ put (only_if (is_annotated kept) (take (length out.old.converted.now) evidence.entry.converted.now)) out.old.converted.now }
 {
-    if kept {
-        copy_marks(evidence.marks, marks_out);
-        copy(evidence.unconverted, unconverted_out);
-        copy(evidence.converted, converted_out);
+    if kept.is_some() {
+        copy_marks(evidence.marks, out.marks);
+        copy(evidence.unconverted, out.unconverted);
+        copy(evidence.converted, out.converted);
     }
 }
 
@@ -99,73 +115,46 @@ fn write_evidence(
 // that the strand keeps. The same length copies all, with marks as 0 or 1; a greater drops the annotation and leaves its outputs as
 // they are. Refuses by 7, 8, 11, 12.
 // `left` is the Rust's own parameter.
-// Lent outputs stay apart: the borrow checker has no rule for a struct of them that is passed on.
 pub fn padded(
     strand: VanillaConsensusRead<'_>,
     new_length: usize,
     left: bool,
     base: u8,
     qual: u8,
-    bases_out: &mut [u8],
-    quals_out: &mut [u8],
-    depths_out: &mut [u16],
-    errors_out: &mut [u16],
-    marks_out: &mut [u8],
-    unconverted_out: &mut [u32],
-    converted_out: &mut [u32],
+    out: &mut StrandOutputs<'_>,
+    evidence: &mut EvidenceOutputs<'_>,
 ) -> Result<Option<ConversionPattern>, Refusal>
-    ensures { PaddedAs strand.entry.annotation (arrays_in strand.entry)
+    ensures same_references { SameStrand out.old out.new × SameEvidence evidence.old evidence.new }
+    ensures padded { PaddedAs strand.entry.annotation (arrays_in strand.entry)
         (padding new_length left base qual)
-        (arrays bases_out.old quals_out.old depths_out.old errors_out.old marks_out.old unconverted_out.old converted_out.old)
-        (arrays bases_out.new quals_out.new depths_out.new errors_out.new marks_out.new unconverted_out.new converted_out.new)
+        (strand_out out.old (evidence_out evidence.old))
+        (strand_out out.new (evidence_out evidence.new))
         result }
 {
-    let out = Lengths {
-        bases: bases_out.len(),
-        quals: quals_out.len(),
-        depths: depths_out.len(),
-        errors: errors_out.len(),
-        evidence: EvidenceSlices {
-            marks: marks_out,
-            unconverted: unconverted_out,
-            converted: converted_out,
-        }
-        .lengths(),
-    };
-    padded_refusal(strand.annotation, strand.lengths(), new_length, out)?;
-    pad(strand.bases, new_length, left, base, bases_out);
-    pad(strand.quals, new_length, left, qual, quals_out);
-    pad(strand.depths, new_length, left, 0, depths_out);
-    pad(strand.errors, new_length, left, 0, errors_out);
     let kept = kept_annotation(strand.annotation, strand.bases.len(), new_length);
-    write_evidence(
-        kept.is_some(),
-        strand.evidence,
-        marks_out,
-        unconverted_out,
-        converted_out,
-    );
+    let room = out.lengths(kept.and(Some(evidence.lengths())));
+    padded_refusal(strand.lengths(), new_length, room)?;
+    pad(strand.bases, new_length, left, base, out.bases);
+    pad(strand.quals, new_length, left, qual, out.quals);
+    pad(strand.depths, new_length, left, 0, out.depths);
+    pad(strand.errors, new_length, left, 0, out.errors);
+    write_evidence(kept, strand.evidence, evidence);
     Ok(kept)
 }
 
 // padded with the base n and the quality 2.
-// Lent outputs stay apart: the borrow checker has no rule for a struct of them that is passed on.
 pub fn padded_default(
     strand: VanillaConsensusRead<'_>,
     new_length: usize,
     left: bool,
-    bases_out: &mut [u8],
-    quals_out: &mut [u8],
-    depths_out: &mut [u16],
-    errors_out: &mut [u16],
-    marks_out: &mut [u8],
-    unconverted_out: &mut [u32],
-    converted_out: &mut [u32],
+    out: &mut StrandOutputs<'_>,
+    evidence: &mut EvidenceOutputs<'_>,
 ) -> Result<Option<ConversionPattern>, Refusal>
-    ensures { PaddedAs strand.entry.annotation (arrays_in strand.entry)
+    ensures same_references { SameStrand out.old out.new × SameEvidence evidence.old evidence.new }
+    ensures padded { PaddedAs strand.entry.annotation (arrays_in strand.entry)
         (default_padding new_length left)
-        (arrays bases_out.old quals_out.old depths_out.old errors_out.old marks_out.old unconverted_out.old converted_out.old)
-        (arrays bases_out.new quals_out.new depths_out.new errors_out.new marks_out.new unconverted_out.new converted_out.new)
+        (strand_out out.old (evidence_out evidence.old))
+        (strand_out out.new (evidence_out evidence.new))
         result }
 {
     padded(
@@ -174,12 +163,7 @@ pub fn padded_default(
         left,
         NO_CALL_BASE_LOWER,
         MIN_PHRED,
-        bases_out,
-        quals_out,
-        depths_out,
-        errors_out,
-        marks_out,
-        unconverted_out,
-        converted_out,
+        out,
+        evidence,
     )
 }

@@ -7,5 +7,5 @@ loop-i-init c =
     let pre = c.requires in
     (start _ pre.places_in_bounds_3, start _ pre.places_in_bounds_4)
 
-pub bounds-common-at-in-loop-i : goal.bounds-common-at-in-loop-i
-bounds-common-at-in-loop-i c = c.requires.by_index _ c.loop-i-test.true
+pub bounds-aligned-at : goal.bounds-aligned-at
+bounds-aligned-at c = c.requires.by_index _ c.loop-i-test.true

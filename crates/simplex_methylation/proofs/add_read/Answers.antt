@@ -1,12 +1,14 @@
 -- `simplex_methylation::add_read` meets its contract: it adds as far as the read, the reference and the marks go, and past that no
 -- position is met. Assumes nothing.
-use mathlib.Core.Path.{◌≡◌}
+use mathlib.Core.Path.{◌≡◌, ap}
+use Rattle.std.specs.Prelude.{option_map}
 use mathlib.Core.Bool.{false}
 use Prim.Native.Nat.{ℕ, ◌+◌, ◌≤◌}
 use native.Mathlib.Omega.{arith}
 use Rattle.lists.proofs.Parts.{stays}
 use Rattle.source_reads.specs.Reads.{read_leaves}
 use Rattle.source_reads.specs.declared.SourceRead.{SourceRead}
+use Rattle.simplex_methylation.specs.Simplex.{setting_in}
 use Rattle.simplex_methylation.proofs.OneRead.{added_everywhere, added_aligned}
 use Rattle.simplex_methylation.proofs.add_read.Goals as goal
 
@@ -24,11 +26,11 @@ add_everywhere-requires c =
       places_in_bounds_3 = (omega (arith, few, pre.2.0), λ i l. pre.2.1 i (omega (arith, few)));
     }
 
-pub returns-then-common : goal.returns-then-common
-returns-then-common c =
+pub returns-in_default : goal.returns-in_default
+returns-in_default c =
     let pre = c.requires in
     let written = c.add_everywhere.ensures in
-    added_everywhere _ _ _ _ _ pre.0 _ _ _ _ _ _ _ c.bases-letters.ensures pre.1.0 pre.2.0 c.if-common.true c.min-reached.ensures written.unconverted_out_after written.converted_out_after
+    added_everywhere (setting_in c.args.common) _ pre.0 _ _ _ _ _ _ c.bases-letters.ensures pre.1.0 pre.2.0 (ap (option_map _) c.in_default.is) c.min-reached.ensures written.unconverted_out_after written.converted_out_after
 
 pub add_aligned-requires : goal.add_aligned-requires
 add_aligned-requires c =
@@ -47,4 +49,4 @@ pub returns : goal.returns
 returns c =
     let pre = c.requires in
     let written = c.add_aligned.ensures in
-    added_aligned _ _ _ _ _ pre.0 _ _ _ _ _ _ _ c.bases-letters.ensures pre.1.0 pre.2.0 c.if-common.false c.min-reached.ensures c.marked_places-places.ensures written.unconverted_out_after written.converted_out_after
+    added_aligned (setting_in c.args.common) _ pre.0 _ _ _ _ _ _ c.bases-letters.ensures pre.1.0 pre.2.0 (ap (option_map _) c.in-Some.is) c.min-reached.ensures c.marked_places-places.ensures written.unconverted_out_after written.converted_out_after

@@ -27,8 +27,8 @@ loop-read-preserved c =
     let more = c.loop-read-test.true in
     (added_next _ _ _ _ _ so_far.0 more c.add_read.ensures.unconverted_ones, added_next _ _ _ _ _ so_far.1 more c.add_read.ensures.converted_ones)
 
-pub returns : goal.returns
-returns c =
+pub returns-clause-puts : goal.returns-clause-puts
+returns-clause-puts c =
     let so_far = c.loop-read.invariant in
     let all = c.loop-read-test.false in
     record {

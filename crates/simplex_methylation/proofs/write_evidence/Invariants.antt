@@ -7,5 +7,5 @@ use Rattle.simplex_methylation.proofs.write_evidence.Given as goal
 abbrev pub invariant-loop-read : goal.invariant-loop-read
 invariant-loop-read l =
     let letters = pattern_bases l.common.pattern in
-    Running (setting_in l.common) letters.unconverted l.reads l.consensus_len l.fn.unconverted_out l.read-index l.unconverted_out
-    × Running (setting_in l.common) letters.converted l.reads l.consensus_len l.fn.converted_out l.read-index l.converted_out
+    Running (setting_in l.common) letters.unconverted l.reads l.consensus_len l.fn.out.unconverted.now l.read-index l.unconverted_out
+    × Running (setting_in l.common) letters.converted l.reads l.consensus_len l.fn.out.converted.now l.read-index l.converted_out

@@ -1,52 +1,53 @@
 -- `vanilla_padded::padded` meets its contract: refused by its row, or each output written, where it has room. Assumes nothing.
-use lib.ListN.{length}
 use Rattle.std.proofs.lemmas.Result.{err_from_is_err_and}
-use Rattle.vanilla_caller.specs.Strand.{arrays_in, arrays}
+use Rattle.methylation.specs.Outputs.{evidence_out}
+use Rattle.vanilla_caller.specs.Strand.{arrays_in}
+use Rattle.vanilla_padded.specs.Lent.{strand_out}
 use Rattle.vanilla_padded.specs.Padding.{padding}
 use Rattle.vanilla_padded.proofs.Room.{turned_down, passed, has_room, written, kept_evidence}
 use Rattle.vanilla_padded.proofs.padded.Goals as goal
 
-pub returns-in_err-padded_refusal : goal.returns-in_err-padded_refusal
-returns-in_err-padded_refusal c =
+pub returns-in_err-padded_refusal-clause-padded : goal.returns-in_err-padded_refusal-clause-padded
+returns-in_err-padded_refusal-clause-padded c =
     let p = err_from_is_err_and c.from_residual.result c.from_residual.ensures.1 in
-    turned_down _ _ _ _ c.lengths-2.ensures c.lengths.ensures c.padded_refusal.ensures c.in_err-padded_refusal.was (rw p.2 at p.1)
+    turned_down _ _ _ _ c.lengths-2.ensures c.kept_annotation-kept.ensures (rw (c.and.ensures, c.lengths.ensures) at c.lengths-room.ensures) c.padded_refusal.ensures c.in_err-padded_refusal.was (rw p.2 at p.1)
 
 pub pad-requires-clause-fits : goal.pad-requires-clause-fits
 pad-requires-clause-fits c =
     let a = c.args in
-    let before = arrays a.bases_out.now a.quals_out.now a.depths_out.now a.errors_out.now a.marks_out.now a.unconverted_out.now a.converted_out.now in
-    (has_room a.strand.annotation (arrays_in a.strand) (padding a.new_length a.left a.base a.qual) before c.lengths-2.ensures c.lengths.ensures c.padded_refusal.ensures c.in_ok-padded_refusal.was).bases
+    let before = strand_out a.out.now (evidence_out a.evidence.now) in
+    (has_room a.strand.annotation (arrays_in a.strand) (padding a.new_length a.left a.base a.qual) before c.lengths-2.ensures c.kept_annotation-kept.ensures (rw (c.and.ensures, c.lengths.ensures) at c.lengths-room.ensures) c.padded_refusal.ensures c.in_ok-padded_refusal.was).bases
 
 pub pad-requires-2-clause-fits : goal.pad-requires-2-clause-fits
 pad-requires-2-clause-fits c =
     let a = c.args in
-    let before = arrays a.bases_out.now a.quals_out.now a.depths_out.now a.errors_out.now a.marks_out.now a.unconverted_out.now a.converted_out.now in
-    (has_room a.strand.annotation (arrays_in a.strand) (padding a.new_length a.left a.base a.qual) before c.lengths-2.ensures c.lengths.ensures c.padded_refusal.ensures c.in_ok-padded_refusal.was).quals
+    let before = strand_out a.out.now (evidence_out a.evidence.now) in
+    (has_room a.strand.annotation (arrays_in a.strand) (padding a.new_length a.left a.base a.qual) before c.lengths-2.ensures c.kept_annotation-kept.ensures (rw (c.and.ensures, c.lengths.ensures) at c.lengths-room.ensures) c.padded_refusal.ensures c.in_ok-padded_refusal.was).quals
 
 pub pad-requires-3-clause-fits : goal.pad-requires-3-clause-fits
 pad-requires-3-clause-fits c =
     let a = c.args in
-    let before = arrays a.bases_out.now a.quals_out.now a.depths_out.now a.errors_out.now a.marks_out.now a.unconverted_out.now a.converted_out.now in
-    (has_room a.strand.annotation (arrays_in a.strand) (padding a.new_length a.left a.base a.qual) before c.lengths-2.ensures c.lengths.ensures c.padded_refusal.ensures c.in_ok-padded_refusal.was).depths
+    let before = strand_out a.out.now (evidence_out a.evidence.now) in
+    (has_room a.strand.annotation (arrays_in a.strand) (padding a.new_length a.left a.base a.qual) before c.lengths-2.ensures c.kept_annotation-kept.ensures (rw (c.and.ensures, c.lengths.ensures) at c.lengths-room.ensures) c.padded_refusal.ensures c.in_ok-padded_refusal.was).depths
 
 pub pad-requires-4-clause-fits : goal.pad-requires-4-clause-fits
 pad-requires-4-clause-fits c =
     let a = c.args in
-    let before = arrays a.bases_out.now a.quals_out.now a.depths_out.now a.errors_out.now a.marks_out.now a.unconverted_out.now a.converted_out.now in
-    (has_room a.strand.annotation (arrays_in a.strand) (padding a.new_length a.left a.base a.qual) before c.lengths-2.ensures c.lengths.ensures c.padded_refusal.ensures c.in_ok-padded_refusal.was).errors
+    let before = strand_out a.out.now (evidence_out a.evidence.now) in
+    (has_room a.strand.annotation (arrays_in a.strand) (padding a.new_length a.left a.base a.qual) before c.lengths-2.ensures c.kept_annotation-kept.ensures (rw (c.and.ensures, c.lengths.ensures) at c.lengths-room.ensures) c.padded_refusal.ensures c.in_ok-padded_refusal.was).errors
 
-pub returns : goal.returns
-returns c =
+pub returns-clause-padded : goal.returns-clause-padded
+returns-clause-padded c =
     let a = c.args in
-    let before = arrays a.bases_out.now a.quals_out.now a.depths_out.now a.errors_out.now a.marks_out.now a.unconverted_out.now a.converted_out.now in
+    let before = strand_out a.out.now (evidence_out a.evidence.now) in
     let strand = arrays_in a.strand in
     let padding = padding a.new_length a.left a.base a.qual in
-    let row = passed a.strand.annotation strand padding before c.lengths-2.ensures c.lengths.ensures c.padded_refusal.ensures c.in_ok-padded_refusal.was in
-    let r = has_room a.strand.annotation strand padding before c.lengths-2.ensures c.lengths.ensures c.padded_refusal.ensures c.in_ok-padded_refusal.was in
+    let row = passed a.strand.annotation strand padding before c.lengths-2.ensures c.kept_annotation-kept.ensures (rw (c.and.ensures, c.lengths.ensures) at c.lengths-room.ensures) c.padded_refusal.ensures c.in_ok-padded_refusal.was in
+    let r = has_room a.strand.annotation strand padding before c.lengths-2.ensures c.kept_annotation-kept.ensures (rw (c.and.ensures, c.lengths.ensures) at c.lengths-room.ensures) c.padded_refusal.ensures c.in_ok-padded_refusal.was in
     written a.strand.annotation strand padding before row c.kept_annotation-kept.ensures (record {
       bases = c.pad.ensures;
       quals = c.pad-2.ensures;
       depths = c.pad-3.ensures;
       errors = c.pad-4.ensures;
-      evidence = kept_evidence a.strand.annotation (length a.strand.bases.now) a.new_length strand.evidence before.evidence c.kept_annotation-kept.ensures c.is_some.ensures r.evidence c.write_evidence.ensures.marks_out c.write_evidence.ensures.unconverted_out c.write_evidence.ensures.converted_out;
+      evidence = kept_evidence _ strand.evidence before.evidence c.kept_annotation-kept.ensures r.evidence c.write_evidence.ensures.marks c.write_evidence.ensures.unconverted c.write_evidence.ensures.converted;
     })

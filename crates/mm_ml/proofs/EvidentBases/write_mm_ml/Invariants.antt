@@ -1,7 +1,7 @@
 -- What the loop keeps.
 use Rattle.mm_ml.specs.Tags.{annotated_in}
 use Rattle.mm_ml.proofs.Strand.{Writing, Scoring}
-use Rattle.mm_ml.proofs.write_mm_ml.Given as goal
+use Rattle.mm_ml.proofs.EvidentBases.write_mm_ml.Given as goal
 
 abbrev pub invariant-loop-i : goal.invariant-loop-i
 invariant-loop-i l =

@@ -1,4 +1,4 @@
--- `mm_ml::write_mm_ml` meets its contract: after i turns the prefix, the skip counts and the ML bytes of the called positions
+-- `mm_ml::EvidentBases::write_mm_ml` meets its contract: after i turns the prefix, the skip counts and the ML bytes of the called positions
 -- below i are written. Assumes nothing.
 use mathlib.Core.Path.{sym, ap, ◌∙◌}
 use mathlib.Core.Bool.{true, false}
@@ -7,12 +7,12 @@ use lib.ListN.{set}
 use Rattle.mm_ml.specs.Tags.{annotated_in, all_calls, skips}
 use Rattle.mm_ml.proofs.Group.{room_behind, semicolon_fits, group_written}
 use Rattle.mm_ml.proofs.Strand.{begin_writing, turn_writing, fits_writing, done_writing, begin_scoring, turn_scoring, fits_scoring, few_scores}
-use Rattle.mm_ml.proofs.write_mm_ml.Goals as goal
-use Rattle.mm_ml.proofs.write_mm_ml.Goals.{then-called_at, else-called_at+then-is_tracked, else-called_at+else-is_tracked}
+use Rattle.mm_ml.proofs.EvidentBases.write_mm_ml.Goals as goal
+use Rattle.mm_ml.proofs.EvidentBases.write_mm_ml.Goals.{then-called_at, else-called_at+then-is_tracked, else-called_at+else-is_tracked}
 
 pub loop-i-init : goal.loop-i-init
 loop-i-init c =
-    let s = annotated_in c.args.s in (
+    let s = annotated_in c.args.self.strand in (
       begin_writing s _ (room_behind s.pattern (skips s (all_calls s)) c.args.mm.now c.requires.mm_fits c.mm_prefix.ensures c.copy.ensures),
       begin_scoring _ _ _ c.requires.ml_fits,
     )
@@ -27,13 +27,13 @@ bounds-ml-count c =
 
 pub overflow_add-count : goal.overflow_add-count
 overflow_add-count c =
-    record { fits = omega (arith, c.requires.evident.few, few_scores _ _ c.loop-i.invariant.1, c.loop-i-test.true) }
+    record { fits = omega (arith, c.args.self.evident.few, few_scores _ _ c.loop-i.invariant.1, c.loop-i-test.true) }
 
 pub loop-i-preserved : goal.loop-i-preserved
 loop-i-preserved c =
     let (text, bytes) = c.loop-i.invariant in
     let more = c.loop-i-test.true in
-    let s = annotated_in c.args.s in
+    let s = annotated_in c.args.self.strand in
     let is = sym c.called_at.ensures in
     elim c.if-called_at.branch [
       | then-called_at w ↦ (
@@ -53,12 +53,12 @@ loop-i-preserved c =
 -- What the loop leaves, behind the prefix.
 pub bounds-mm-place : goal.bounds-mm-place
 bounds-mm-place c =
-    let s = annotated_in c.args.s in
+    let s = annotated_in c.args.self.strand in
     let (place, text) = done_writing s c.loop-i.invariant.0 c.loop-i-test.false in
     semicolon_fits s.pattern (skips s (all_calls s)) c.args.mm.now c.requires.mm_fits c.mm_prefix.ensures c.copy.ensures place text
 
 pub returns-clause-mm_after : goal.returns-clause-mm_after
 returns-clause-mm_after c =
-    let s = annotated_in c.args.s in
+    let s = annotated_in c.args.self.strand in
     let (place, text) = done_writing s c.loop-i.invariant.0 c.loop-i-test.false in
     group_written s.pattern (skips s (all_calls s)) c.args.mm.now c.requires.mm_fits c.mm_prefix.ensures c.copy.ensures place text
