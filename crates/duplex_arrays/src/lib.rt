@@ -6,9 +6,9 @@ ghost use Rattle.std.specs.Prelude.{◌≡◌, false, [], ◌∷◌, ◌≤◌, 
 ghost use Rattle.lists.specs.Output.{put};
 ghost use Rattle.vanilla_caller.specs.Strand.{arrays_in};
 ghost use Rattle.duplex_molecule.specs.declared.CtInput.TheVariants.{Neither};
-ghost use Rattle.duplex_arrays.specs.Positions.{combined_bases, combined_quals, estimates, arrays_short, PositionsAs, ErrorsAs};
+ghost use Rattle.duplex_arrays.specs.Positions.{combined_bases, combined_quals, estimates, arrays_short, positions_short, PositionsAs, ErrorsAs};
 
-use duplex_call::{CountedBase, MarkedBase, combine_annotated, estimate_errors};
+use duplex_call::{CountedBase, MarkedBase, combine_annotated, estimate_errors, estimate_uncalled};
 use duplex_molecule::{CtInput, can_call};
 use duplex_position::{StrandBase, combine_bases};
 use vanilla_caller::{Lengths, VanillaConsensusRead};
@@ -52,18 +52,19 @@ fn counted_at(s: VanillaConsensusRead, i: usize) -> CountedBase
 #[tactic(auto, unfolding(crate::specs::Positions::arrays_short))]
 fn positions_short(
     n: usize,
-    calls: bool,
-    a: Lengths,
-    b: Lengths,
-    bases_out: usize,
-    quals_out: usize,
+    ct: CtInput,
+    a: VanillaConsensusRead,
+    b: VanillaConsensusRead,
+    bases_out: &[u8],
+    quals_out: &[u8],
 ) -> bool
-    ensures { result ≡ arrays_short n calls (a.evidence.marks ∷ b.evidence.marks ∷ []) (a.bases ∷ a.quals ∷ b.bases ∷ b.quals ∷ bases_out ∷ quals_out ∷ []) }
+    ensures { result ≡ positions_short n ct (arrays_in a.entry) (arrays_in b.entry) bases_out.now quals_out.now }
 {
-    let marks = (a.evidence.marks < n) | (b.evidence.marks < n);
-    let others = (a.bases < n)
-        | ((a.quals < n) | ((b.bases < n) | ((b.quals < n) | ((bases_out < n) | (quals_out < n)))));
-    (calls & marks) | others
+    let marks = (a.evidence.marks.len() < n) | (b.evidence.marks.len() < n);
+    let outputs = (bases_out.len() < n) | (quals_out.len() < n);
+    let strands = (a.bases.len() < n)
+        | ((a.quals.len() < n) | ((b.bases.len() < n) | (b.quals.len() < n)));
+    (can_call(ct) & marks) | (strands | outputs)
 }
 
 #[tactic(auto, unfolding(crate::specs::Positions::arrays_short))]
@@ -75,21 +76,24 @@ fn errors_short(n: usize, a: Lengths, b: Lengths, errors_out: usize) -> bool
     ours | (others | (errors_out < n))
 }
 
+// Strands A and B, each of which has a base and a quality at the first n positions.
+#[derive(Clone, Copy)]
+struct Shown<'a> {
+    a: VanillaConsensusRead<'a>,
+    b: VanillaConsensusRead<'a>,
+    n: usize,
+    ghost of_a: { (n ≤ length a.bases.now) × (n ≤ length a.quals.now) },
+    ghost of_b: { (n ≤ length b.bases.now) × (n ≤ length b.quals.now) },
+}
+
 // Base and quality of each of the first n positions, where there are no calls.
 #[tactic(auto, using(lists::proofs::Output::begin, lists::proofs::Table::length_tabulate, lists::proofs::Told::next_table), unfolding(crate::specs::Positions::combined_bases, crate::specs::Positions::combined_quals, duplex_call::specs::Annotated::combined, duplex_molecule::specs::Molecule::call_at))]
-fn fill_positions(
-    a: VanillaConsensusRead,
-    b: VanillaConsensusRead,
-    n: usize,
-    bases_out: &mut [u8],
-    quals_out: &mut [u8],
-)
-    requires n_in_bounds { (n ≤ length a.bases.now) × (n ≤ length a.quals.now) }
-    requires n_in_bounds_2 { (n ≤ length b.bases.now) × (n ≤ length b.quals.now) }
-    requires n_in_bounds_3 { (n ≤ length bases_out.old) × (n ≤ length quals_out.old) }
-    ensures bases_out_after { bases_out.new ≡ put (combined_bases n Neither (arrays_in a.entry) (arrays_in b.entry)) bases_out.old }
-    ensures quals_out_after { quals_out.new ≡ put (combined_quals n Neither (arrays_in a.entry) (arrays_in b.entry)) quals_out.old }
+fn fill_positions(s: Shown, bases_out: &mut [u8], quals_out: &mut [u8])
+    requires { (s.n ≤ length bases_out.old) × (s.n ≤ length quals_out.old) }
+    ensures bases_out_after { bases_out.new ≡ put (combined_bases s.entry.n Neither (arrays_in s.entry.a) (arrays_in s.entry.b)) bases_out.old }
+    ensures quals_out_after { quals_out.new ≡ put (combined_quals s.entry.n Neither (arrays_in s.entry.a) (arrays_in s.entry.b)) quals_out.old }
 {
+    let Shown { a, b, n } = s;
     for i in 0..n {
         let p = combine_bases(base_at(a, i), base_at(b, i));
         bases_out[i] = p.base;
@@ -99,20 +103,13 @@ fn fill_positions(
 
 // The same where there may be.
 #[tactic(auto, using(lists::proofs::Output::begin, lists::proofs::Table::length_tabulate, lists::proofs::Told::next_table), unfolding(crate::specs::Positions::combined_bases, crate::specs::Positions::combined_quals))]
-fn fill_called_positions(
-    ct: CtInput,
-    a: VanillaConsensusRead,
-    b: VanillaConsensusRead,
-    n: usize,
-    bases_out: &mut [u8],
-    quals_out: &mut [u8],
-)
-    requires n_in_bounds { (n ≤ length a.bases.now) × (n ≤ length a.quals.now) × (n ≤ length a.evidence.marks.now) }
-    requires n_in_bounds_2 { (n ≤ length b.bases.now) × (n ≤ length b.quals.now) × (n ≤ length b.evidence.marks.now) }
-    requires n_in_bounds_3 { (n ≤ length bases_out.old) × (n ≤ length quals_out.old) }
-    ensures bases_out_after { bases_out.new ≡ put (combined_bases n ct (arrays_in a.entry) (arrays_in b.entry)) bases_out.old }
-    ensures quals_out_after { quals_out.new ≡ put (combined_quals n ct (arrays_in a.entry) (arrays_in b.entry)) quals_out.old }
+fn fill_called_positions(ct: CtInput, s: Shown, bases_out: &mut [u8], quals_out: &mut [u8])
+    requires marked { (s.n ≤ length s.a.evidence.marks.now) × (s.n ≤ length s.b.evidence.marks.now) }
+    requires in_bounds { (s.n ≤ length bases_out.old) × (s.n ≤ length quals_out.old) }
+    ensures bases_out_after { bases_out.new ≡ put (combined_bases s.entry.n ct (arrays_in s.entry.a) (arrays_in s.entry.b)) bases_out.old }
+    ensures quals_out_after { quals_out.new ≡ put (combined_quals s.entry.n ct (arrays_in s.entry.a) (arrays_in s.entry.b)) quals_out.old }
 {
+    let Shown { a, b, n } = s;
     for i in 0..n {
         let called = combine_annotated(ct, marked_at(a, i), marked_at(b, i));
         bases_out[i] = called.base;
@@ -121,7 +118,7 @@ fn fill_called_positions(
 }
 
 // Writes base and quality of the first n positions; nothing where an array is shorter than n. Marks are looked at only where
-// there may be calls.
+// there may be calls. The strands and n come apart: that the arrays reach n, as Shown states, is what is tested here.
 #[tactic(auto, using(crate::proofs::Positions::without_calls, lists::proofs::Output::put_none), unfolding(crate::specs::Positions::arrays_short, crate::specs::Positions::unless_short))]
 pub fn write_positions(
     ct: CtInput,
@@ -135,38 +132,44 @@ pub fn write_positions(
         bases_out.old quals_out.old
         bases_out.new quals_out.new }
 {
-    let calls = can_call(ct);
-    if positions_short(
-        n,
-        calls,
-        a.lengths(),
-        b.lengths(),
-        bases_out.len(),
-        quals_out.len(),
-    ) {
+    if positions_short(n, ct, a, b, bases_out, quals_out) {
         return;
     }
-    if calls {
-        fill_called_positions(ct, a, b, n, bases_out, quals_out);
+    let shown = Shown { a, b, n };
+    if can_call(ct) {
+        fill_called_positions(ct, shown, bases_out, quals_out);
     } else {
-        fill_positions(a, b, n, bases_out, quals_out);
+        fill_positions(shown, bases_out, quals_out);
     }
 }
 
-// The errors' estimate of each of the first n positions.
-#[tactic(auto, using(lists::proofs::Output::begin, lists::proofs::Table::length_tabulate, lists::proofs::Told::next_table), unfolding(crate::specs::Positions::estimates))]
-fn fill_estimates(
-    ct: CtInput,
-    a: VanillaConsensusRead,
-    b: VanillaConsensusRead,
-    n: usize,
-    errors_out: &mut [u16],
-)
-    requires n_in_bounds { (n ≤ length a.bases.now) × (n ≤ length a.quals.now) × (n ≤ length a.depths.now) × (n ≤ length a.errors.now) }
-    requires n_in_bounds_2 { (n ≤ length b.bases.now) × (n ≤ length b.quals.now) × (n ≤ length b.depths.now) × (n ≤ length b.errors.now) }
-    requires n_in_bounds_3 { n ≤ length errors_out.old }
-    ensures { errors_out.new ≡ put (estimates n ct (arrays_in a.entry) (arrays_in b.entry)) errors_out.old }
+// Strands A and B, each of which has a depth and errors there too.
+#[derive(Clone, Copy)]
+struct Counted<'a> {
+    shown: Shown<'a>,
+    ghost of_a: { (shown.n ≤ length shown.a.depths.now) × (shown.n ≤ length shown.a.errors.now) },
+    ghost of_b: { (shown.n ≤ length shown.b.depths.now) × (shown.n ≤ length shown.b.errors.now) },
+}
+
+// The errors' estimate of each of the first n positions, where there are no calls.
+#[tactic(auto, using(lists::proofs::Output::begin, lists::proofs::Table::length_tabulate, lists::proofs::Told::next_table), unfolding(crate::specs::Positions::estimates, duplex_call::specs::Annotated::estimated, duplex_molecule::specs::Molecule::call_at))]
+fn fill_estimates(s: Counted, errors_out: &mut [u16])
+    requires { s.shown.n ≤ length errors_out.old }
+    ensures { errors_out.new ≡ put (estimates s.entry.shown.n Neither (arrays_in s.entry.shown.a) (arrays_in s.entry.shown.b)) errors_out.old }
 {
+    let Shown { a, b, n } = s.shown;
+    for i in 0..n {
+        errors_out[i] = estimate_uncalled(counted_at(a, i), counted_at(b, i));
+    }
+}
+
+// The same where there may be.
+#[tactic(auto, using(lists::proofs::Output::begin, lists::proofs::Table::length_tabulate, lists::proofs::Told::next_table), unfolding(crate::specs::Positions::estimates))]
+fn fill_called_estimates(ct: CtInput, s: Counted, errors_out: &mut [u16])
+    requires { s.shown.n ≤ length errors_out.old }
+    ensures { errors_out.new ≡ put (estimates s.entry.shown.n ct (arrays_in s.entry.shown.a) (arrays_in s.entry.shown.b)) errors_out.old }
+{
+    let Shown { a, b, n } = s.shown;
     for i in 0..n {
         errors_out[i] = estimate_errors(ct, counted_at(a, i), counted_at(b, i));
     }
@@ -174,8 +177,8 @@ fn fill_estimates(
 
 // Writes the errors of the first n positions: 0 where reads are listed, which are counted later, else the estimate; nothing
 // where an array is shorter than n.
-// Of a list only whether there is one counts here.
-#[tactic(auto, using(lists::proofs::Output::put_none), unfolding(crate::specs::Positions::arrays_short, crate::specs::Positions::unless_short, crate::specs::Positions::combined_errors))]
+// Of a list only whether there is one counts here. The strands and n come apart as in write_positions.
+#[tactic(auto, using(crate::proofs::Positions::without_calls, lists::proofs::Output::put_none), unfolding(crate::specs::Positions::arrays_short, crate::specs::Positions::unless_short, crate::specs::Positions::combined_errors))]
 pub fn write_errors(
     ct: CtInput,
     listed: bool,
@@ -191,9 +194,14 @@ pub fn write_errors(
     if errors_short(n, a.lengths(), b.lengths(), errors_out.len()) {
         return;
     }
+    let counted = Counted {
+        shown: Shown { a, b, n },
+    };
     if listed {
         errors_out[..n].fill(0);
+    } else if can_call(ct) {
+        fill_called_estimates(ct, counted, errors_out);
     } else {
-        fill_estimates(ct, a, b, n, errors_out);
+        fill_estimates(counted, errors_out);
     }
 }

@@ -4,15 +4,18 @@ use mathlib.Core.Path.{◌≡◌, refl, sym, subst}
 use mathlib.Core.Bool.{Bool, true, false, cond, ◌&&◌, ◌||◌, true≢false}
 use lib.Dec.{eqb}
 use borrow.Author.Tests.{eqb-true}
+use Rattle.std.specs.Bool.{beq}
 use Rattle.dna.specs.Dna.{letter_a, letter_c, letter_g, letter_t, upper}
+use Rattle.methylation.specs.Methylation.{pattern_bases}
 use Rattle.methylation.specs.declared.ConversionPattern.TheVariants.{CToT, GToA}
 use Rattle.duplex_molecule.specs.Molecule.{molecule_call, call_as, call_at, is_call, is_call_of, can_call, same_pattern}
 use Rattle.duplex_molecule.specs.declared.CtInput.{CtInput}
 use Rattle.duplex_molecule.specs.declared.CtInput.TheVariants.{Neither, IsA, IsB}
 use Rattle.duplex_molecule.specs.declared.MoleculeCall.{MoleculeCall}
 use Rattle.duplex_position.specs.Combination.{uncalled}
+use Rattle.duplex_errors.specs.Errors.{disagreeing}
 use Rattle.duplex_call.specs.Annotated.{by_call, combined, shown, expected}
-use Rattle.duplex_call.specs.Tests.{is_b, of_pattern, at_call}
+use Rattle.duplex_call.specs.Tests.{is_b, by_b, at_call}
 use Rattle.std.proofs.Common.{None, Some, Option}
 use Rattle.methylation.specs.declared.ConversionPattern.{ConversionPattern}
 
@@ -71,6 +74,29 @@ g_to_a ct a b = of ct
     of IsA = go a b (c_test a b) (g_test a b) (apart a b)
     of IsB = go b a (c_test b a) (g_test b a) (apart b a)
 
+-- The same of a pattern, by its letters.
+abbrev pub pattern_test : ConversionPattern → ℕ → ℕ → Bool
+pattern_test pattern shown confirming =
+    eqb (upper confirming) (pattern_bases pattern).unconverted
+    && (eqb (upper shown) (pattern_bases pattern).unconverted || eqb (upper shown) (pattern_bases pattern).converted)
+
+pub of_test :
+    (pattern : ConversionPattern) (ct : CtInput) (a b : ℕ)
+    → (can_call ct && pattern_test pattern (cond (by_b pattern ct) b a) (cond (by_b pattern ct) a b)) ≡ is_call_of (Some pattern) (call_at ct a b)
+of_test CToT ct a b = c_to_t ct a b
+of_test GToA Neither a b = g_to_a Neither a b
+of_test GToA IsA a b = g_to_a IsA a b
+of_test GToA IsB a b = g_to_a IsB a b
+
+-- B is the informative strand where it is of pattern C to T and so is the call, or neither is.
+pub informative : (pattern : ConversionPattern) (ct : CtInput) → beq (is_b ct) (same_pattern pattern CToT) ≡ by_b pattern ct
+informative CToT Neither = refl
+informative CToT IsA = refl
+informative CToT IsB = refl
+informative GToA Neither = refl
+informative GToA IsA = refl
+informative GToA IsB = refl
+
 pub either : (x : Option MoleculeCall) → (is_call_of (Some CToT) x || is_call_of (Some GToA) x) ≡ is_call x
 unfolding is_call_of
 either None = refl
@@ -80,29 +106,14 @@ either (Some call) = of call.pattern
     of CToT = refl
     of GToA = refl
 
--- Whether a strand keeps its evidence.
-pub kept :
-    (annotation : Option ConversionPattern) (x : Option MoleculeCall)
-    → ((of_pattern CToT annotation && is_call_of (Some CToT) x) || (of_pattern GToA annotation && is_call_of (Some GToA) x)) ≡ is_call_of annotation x
-unfolding is_call_of
-kept None x = refl
-kept (Some CToT) None = refl
-kept (Some GToA) None = refl
-kept (Some CToT) (Some call) = of call.pattern
-  where
-    of : (p : ConversionPattern) → (same_pattern CToT p || false) ≡ same_pattern CToT p
-    of CToT = refl
-    of GToA = refl
-kept (Some GToA) (Some call) = refl
-
 -- The position by the tests is the position by the call.
 abbrev Placed : CtInput → ℕ → ℕ → ℕ → ℕ → ℕ → ℕ → Option MoleculeCall → Type 0
 Placed ct a qa ma b qb mb x =
-    cond (is_call_of (Some CToT) x || is_call_of (Some GToA) x) (at_call (is_call_of (Some CToT) x) (is_b ct) a qa ma b qb mb) (uncalled a qa b qb) ≡ by_call ct a qa ma b qb mb x
+    cond (is_call_of (Some CToT) x || is_call_of (Some GToA) x) (at_call (cond (is_call_of (Some CToT) x) CToT GToA) ct a qa ma b qb mb) (uncalled a qa b qb) ≡ by_call ct a qa ma b qb mb x
 
 pub position :
     (ct : CtInput) (a qa ma b qb mb : ℕ)
-    → cond (is_call_of (Some CToT) (call_at ct a b) || is_call_of (Some GToA) (call_at ct a b)) (at_call (is_call_of (Some CToT) (call_at ct a b)) (is_b ct) a qa ma b qb mb) (uncalled a qa b qb) ≡ combined ct a qa ma b qb mb
+    → cond (is_call_of (Some CToT) (call_at ct a b) || is_call_of (Some GToA) (call_at ct a b)) (at_call (cond (is_call_of (Some CToT) (call_at ct a b)) CToT GToA) ct a qa ma b qb mb) (uncalled a qa b qb) ≡ combined ct a qa ma b qb mb
 unfolding call_at molecule_call is_call_of at_call combined
 position ct a qa ma b qb mb = of ct
   where
@@ -150,3 +161,10 @@ expects ct a qa b qb last = of ct
     of Neither = refl
     of IsA = with_a (c_test a b) (g_test a b) last
     of IsB = with_b (c_test b a) (g_test b a) last
+
+-- The estimate of the winner and the loser, whichever of A and B it is.
+pub winner :
+    (b_wins : Bool) (da ea db eb : ℕ)
+    → disagreeing (cond b_wins eb ea) (cond b_wins da db) (cond b_wins ea eb) ≡ cond b_wins (disagreeing eb da ea) (disagreeing ea db eb)
+winner true da ea db eb = refl
+winner false da ea db eb = refl

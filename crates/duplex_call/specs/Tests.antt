@@ -1,8 +1,9 @@
--- The position at a call, by the tests that tell one: of which pattern it is, and which strand is of pattern C to T.
-use Rattle.std.specs.Prelude.{None, Some, Option, ℕ, Bool, true, false, cond, not, ◌&&◌, ◌||◌, eqb}
-use Rattle.dna.specs.Dna.{letter_a, letter_c, letter_g, letter_t, same_letter}
+-- The position at a call of a pattern, by which strand is of pattern C to T.
+use Rattle.std.specs.Prelude.{ℕ, Bool, true, false, cond, not, ◌&&◌, eqb}
+use Rattle.dna.specs.Dna.{same_letter}
+use Rattle.methylation.specs.Methylation.{pattern_bases}
 use Rattle.methylation.specs.declared.ConversionPattern.{ConversionPattern}
-use Rattle.duplex_molecule.specs.Molecule.{same_pattern}
+use Rattle.methylation.specs.declared.ConversionPattern.TheVariants.{CToT, GToA}
 use Rattle.duplex_molecule.specs.declared.CtInput.{CtInput}
 use Rattle.duplex_molecule.specs.declared.CtInput.TheVariants.{Neither, IsA, IsB}
 use Rattle.duplex_position.specs.Combination.{called}
@@ -14,18 +15,14 @@ is_b Neither = false
 is_b IsA = false
 is_b IsB = true
 
--- An annotation is of this pattern.
-abbrev pub of_pattern : ConversionPattern → Option ConversionPattern → Bool
-of_pattern pattern None = false
-of_pattern pattern (Some own) = same_pattern pattern own
+-- B is the informative strand of a call of this pattern.
+abbrev pub by_b : ConversionPattern → CtInput → Bool
+by_b CToT ct = is_b ct
+by_b GToA ct = not (is_b ct)
 
--- B is the informative strand of a call of pattern C to T, or else of G to A.
-abbrev pub by_b : Bool → Bool → Bool
-by_b c_to_t is_b = (c_to_t && is_b) || not (c_to_t || is_b)
-
-unfoldable pub at_call : Bool → Bool → ℕ → ℕ → ℕ → ℕ → ℕ → ℕ → Position
-at_call c_to_t is_b a qa ma b qb mb =
-    let from_b = by_b c_to_t is_b in
-    called a qa b qb (cond c_to_t letter_c letter_g)
-    (same_letter (cond from_b b a) (cond c_to_t letter_t letter_a) && eqb (cond from_b mb ma) 0)
+unfoldable pub at_call : ConversionPattern → CtInput → ℕ → ℕ → ℕ → ℕ → ℕ → ℕ → Position
+at_call pattern ct a qa ma b qb mb =
+    let from_b = by_b pattern ct in
+    called a qa b qb (pattern_bases pattern).reference
+    (same_letter (cond from_b b a) (pattern_bases pattern).converted && eqb (cond from_b mb ma) 0)
     (cond from_b qa qb)

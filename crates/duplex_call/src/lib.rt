@@ -4,9 +4,8 @@
 
 ghost use Rattle.std.specs.Prelude.{◌≡◌, cond};
 ghost use Rattle.duplex_call.specs.Annotated.{combined, estimated_uncalled, estimated, expected};
-ghost use Rattle.duplex_call.specs.Tests.{is_b, of_pattern, at_call};
+ghost use Rattle.duplex_call.specs.Tests.{is_b, by_b, at_call};
 ghost use Rattle.duplex_molecule.specs.Molecule.{call_at, is_call, is_call_of};
-ghost use Rattle.methylation.specs.declared.ConversionPattern.TheVariants.{CToT, GToA};
 
 use dna::{eq_ignore_ascii_case, to_ascii_uppercase};
 use duplex_errors::{estimate_agreeing, estimate_disagreeing};
@@ -31,6 +30,7 @@ pub struct CountedBase {
 
 // These functions choose between values and never between ways through the code, so that the loops over positions run on several
 // positions at once.
+// `first` chooses a value and no way through the code.
 fn pick<T: Copy>(first: bool, a: T, b: T) -> T
     ensures { result ≡ cond first a b }
 {
@@ -43,43 +43,47 @@ fn ct_is_b(ct: CtInput) -> bool
     ct == CtInput::IsB
 }
 
-// Whether there is a C-to-T call.
-#[tactic(auto, using(crate::proofs::Calls::c_to_t))]
-fn is_c_to_t_call(ct: CtInput, a_base: u8, b_base: u8) -> bool
-    ensures { result ≡ is_call_of (Some CToT) (call_at ct a_base b_base) }
+// Whether B is the informative strand of a call of a pattern, or else A.
+#[tactic(auto, using(crate::proofs::Calls::informative))]
+fn informative_is_b(pattern: ConversionPattern, ct: CtInput) -> bool
+    ensures { result ≡ by_b pattern ct }
 {
-    let is_b = ct_is_b(ct);
-    let shown = to_ascii_uppercase(pick(is_b, b_base, a_base));
-    let confirming = to_ascii_uppercase(pick(is_b, a_base, b_base));
-    can_call(ct) & ((confirming == b'C') & ((shown == b'C') | (shown == b'T')))
+    ct_is_b(ct) == (pattern == ConversionPattern::CToT)
 }
 
-// Whether there is a G-to-A call.
-#[tactic(auto, using(crate::proofs::Calls::g_to_a))]
-fn is_g_to_a_call(ct: CtInput, a_base: u8, b_base: u8) -> bool
-    ensures { result ≡ is_call_of (Some GToA) (call_at ct a_base b_base) }
+// Whether there is a call of a pattern.
+#[tactic(auto, using(crate::proofs::Calls::of_test))]
+fn is_call_of(pattern: ConversionPattern, ct: CtInput, a_base: u8, b_base: u8) -> bool
+    ensures { result ≡ is_call_of (Some pattern) (call_at ct a_base b_base) }
 {
-    let is_b = ct_is_b(ct);
-    let confirming = to_ascii_uppercase(pick(is_b, b_base, a_base));
-    let shown = to_ascii_uppercase(pick(is_b, a_base, b_base));
-    can_call(ct) & ((confirming == b'G') & ((shown == b'G') | (shown == b'A')))
+    let by_b = informative_is_b(pattern, ct);
+    let shown = to_ascii_uppercase(pick(by_b, b_base, a_base));
+    let confirming = to_ascii_uppercase(pick(by_b, a_base, b_base));
+    let bases = pattern.bases();
+    can_call(ct)
+        & ((confirming == bases.unconverted)
+            & ((shown == bases.unconverted) | (shown == bases.converted)))
 }
 
-// Base and quality at a call, of pattern C to T or else G to A.
+// Base and quality at a call of a pattern.
 #[tactic(auto, unfolding(crate::specs::Tests::at_call))]
-fn combine_at_call(c_to_t: bool, is_b: bool, a: MarkedBase, b: MarkedBase) -> Position
-    ensures { result ≡ at_call c_to_t is_b a.shown.base a.shown.qual a.mark b.shown.base b.shown.qual b.mark }
+fn combine_at_call(
+    pattern: ConversionPattern,
+    ct: CtInput,
+    a: MarkedBase,
+    b: MarkedBase,
+) -> Position
+    ensures { result ≡ at_call pattern ct a.shown.base a.shown.qual a.mark b.shown.base b.shown.qual b.mark }
 {
-    let by_b = (c_to_t & is_b) | !(c_to_t | is_b);
+    let by_b = informative_is_b(pattern, ct);
     let informative = pick(by_b, b, a);
     let confirming = pick(by_b, a, b);
-    let converted = pick(c_to_t, b'T', b'A');
-    let confirmed = pick(c_to_t, b'C', b'G');
+    let bases = pattern.bases();
     combine_called(
         a.shown,
         b.shown,
-        confirmed,
-        eq_ignore_ascii_case(informative.shown.base, converted) & (informative.mark == 0),
+        bases.reference,
+        eq_ignore_ascii_case(informative.shown.base, bases.converted) & (informative.mark == 0),
         confirming.shown.qual,
     )
 }
@@ -89,9 +93,10 @@ fn combine_at_call(c_to_t: bool, is_b: bool, a: MarkedBase, b: MarkedBase) -> Po
 pub fn combine_annotated(ct: CtInput, a: MarkedBase, b: MarkedBase) -> Position
     ensures { result ≡ combined ct a.shown.base a.shown.qual a.mark b.shown.base b.shown.qual b.mark }
 {
-    let c_to_t = is_c_to_t_call(ct, a.shown.base, b.shown.base);
-    let g_to_a = is_g_to_a_call(ct, a.shown.base, b.shown.base);
-    let at_call = combine_at_call(c_to_t, ct_is_b(ct), a, b);
+    let c_to_t = is_call_of(ConversionPattern::CToT, ct, a.shown.base, b.shown.base);
+    let g_to_a = is_call_of(ConversionPattern::GToA, ct, a.shown.base, b.shown.base);
+    let pattern = pick(c_to_t, ConversionPattern::CToT, ConversionPattern::GToA);
+    let at_call = combine_at_call(pattern, ct, a, b);
     pick(c_to_t | g_to_a, at_call, combine_bases(a.shown, b.shown))
 }
 
@@ -99,17 +104,12 @@ pub fn combine_annotated(ct: CtInput, a: MarkedBase, b: MarkedBase) -> Position
 fn is_call(ct: CtInput, a_base: u8, b_base: u8) -> bool
     ensures { result ≡ is_call (call_at ct a_base b_base) }
 {
-    is_c_to_t_call(ct, a_base, b_base) | is_g_to_a_call(ct, a_base, b_base)
-}
-
-fn is_of(pattern: ConversionPattern, annotation: Option<ConversionPattern>) -> bool
-    ensures { result ≡ of_pattern pattern annotation }
-{
-    annotation == Some(pattern)
+    is_call_of(ConversionPattern::CToT, ct, a_base, b_base)
+        | is_call_of(ConversionPattern::GToA, ct, a_base, b_base)
 }
 
 // Whether a strand of this annotation keeps its evidence: it is the informative one of a call.
-#[tactic(auto, using(crate::proofs::Calls::kept))]
+#[tactic(auto, unfolding(duplex_molecule::specs::Molecule::is_call_of))]
 pub fn keeps_evidence(
     annotation: Option<ConversionPattern>,
     ct: CtInput,
@@ -118,24 +118,22 @@ pub fn keeps_evidence(
 ) -> bool
     ensures { result ≡ is_call_of annotation (call_at ct a_base b_base) }
 {
-    let c_to_t = is_c_to_t_call(ct, a_base, b_base);
-    let g_to_a = is_g_to_a_call(ct, a_base, b_base);
-    (is_of(ConversionPattern::CToT, annotation) & c_to_t)
-        | (is_of(ConversionPattern::GToA, annotation) & g_to_a)
+    annotation.is_some_and(|pattern| is_call_of(pattern, ct, a_base, b_base))
 }
 
-// The errors' estimate where there is no call.
-#[tactic(auto, unfolding(crate::specs::Annotated::estimated_uncalled))]
-fn estimate_uncalled(a: CountedBase, b: CountedBase) -> u16
+// The errors' estimate where there is no call. Of different bases that of the higher quality wins, A's where they are equal.
+#[tactic(auto, using(crate::proofs::Calls::winner), unfolding(crate::specs::Annotated::estimated_uncalled))]
+pub fn estimate_uncalled(a: CountedBase, b: CountedBase) -> u16
     ensures { result ≡ estimated_uncalled a.shown.base a.shown.qual a.depth a.errors b.shown.base b.shown.qual b.depth b.errors }
 {
-    if a.shown.base == b.shown.base {
-        return estimate_agreeing(a.errors, b.errors);
-    }
-    if a.shown.qual < b.shown.qual {
-        return estimate_disagreeing(b.errors, a.depth, a.errors);
-    }
-    estimate_disagreeing(a.errors, b.depth, b.errors)
+    let b_wins = a.shown.qual < b.shown.qual;
+    let winner = pick(b_wins, b, a);
+    let loser = pick(b_wins, a, b);
+    pick(
+        a.shown.base == b.shown.base,
+        estimate_agreeing(a.errors, b.errors),
+        estimate_disagreeing(winner.errors, loser.depth, loser.errors),
+    )
 }
 
 // The errors' estimate where no source reads are kept.
@@ -143,15 +141,16 @@ fn estimate_uncalled(a: CountedBase, b: CountedBase) -> u16
 pub fn estimate_errors(ct: CtInput, a: CountedBase, b: CountedBase) -> u16
     ensures { result ≡ estimated ct a.shown.base a.shown.qual a.depth a.errors b.shown.base b.shown.qual b.depth b.errors }
 {
-    if is_call(ct, a.shown.base, b.shown.base) {
-        return estimate_agreeing(a.errors, b.errors);
-    }
-    estimate_uncalled(a, b)
+    pick(
+        is_call(ct, a.shown.base, b.shown.base),
+        estimate_agreeing(a.errors, b.errors),
+        estimate_uncalled(a, b),
+    )
 }
 
 // What a source read should show at a position: the unmasked base, or at a call what its own strand should show. `last` says
 // that it has the flag 0x80.
-// The flag is a read's own, whether it is the last of its pair.
+// The flag is a read's own, whether it is the last of its pair; it too chooses a value alone.
 #[tactic(auto, using(crate::proofs::Calls::expects))]
 pub fn expected_base(ct: CtInput, a: StrandBase, b: StrandBase, last: bool) -> u8
     ensures { result ≡ expected ct a.base a.qual b.base b.qual last }
@@ -160,6 +159,14 @@ pub fn expected_base(ct: CtInput, a: StrandBase, b: StrandBase, last: bool) -> u
     let at_c = pick(last, b'C', pick(is_b, b.base, a.base));
     let at_g = pick(last, pick(is_b, a.base, b.base), b'G');
     let raw = combine_bases(a, b).raw;
-    let uncalled_or_g = pick(is_g_to_a_call(ct, a.base, b.base), at_g, raw);
-    pick(is_c_to_t_call(ct, a.base, b.base), at_c, uncalled_or_g)
+    let uncalled_or_g = pick(
+        is_call_of(ConversionPattern::GToA, ct, a.base, b.base),
+        at_g,
+        raw,
+    );
+    pick(
+        is_call_of(ConversionPattern::CToT, ct, a.base, b.base),
+        at_c,
+        uncalled_or_g,
+    )
 }

@@ -4,6 +4,7 @@ use Rattle.std.specs.Prelude.{Option, ℕ, ◌≡◌, Bool, false, not, List, []
 use Rattle.lists.specs.Output.{put}
 use Rattle.lists.specs.Part.{only_if}
 use Rattle.lists.specs.Table.{tabulate}
+use Rattle.methylation.specs.Arrays.{EvidenceArrays}
 use Rattle.methylation.specs.Methylation.{is_annotated, evidence_if}
 use Rattle.methylation.specs.declared.Evidence.{Evidence}
 use Rattle.vanilla_caller.specs.Strand.{Arrays}
@@ -40,15 +41,14 @@ unfoldable pub kept_converted : ℕ → CtInput → Arrays → Arrays → Option
 kept_converted n ct a b annotation s = only_if (is_annotated annotation) (tabulate n (λ i. (evidence_of ct a b annotation s i).converted))
 
 -- What is too short for the evidence of n positions.
-abbrev pub evidence_short : ℕ → Arrays → Arrays → Arrays → List ℕ → List ℕ → List ℕ → Bool
-evidence_short n a b s marks unconverted converted =
+abbrev pub evidence_short : ℕ → Arrays → Arrays → Arrays → EvidenceArrays → Bool
+evidence_short n a b s out =
     arrays_short n false []
     (length a.bases ∷ length b.bases ∷ length s.evidence.unconverted ∷ length s.evidence.converted
-    ∷ length marks ∷ length unconverted ∷ length converted ∷ [])
+    ∷ length out.marks ∷ length out.unconverted ∷ length out.converted ∷ [])
 
 -- What a call leaves in its outputs.
-pub record EvidenceAs (n : ℕ) (ct : CtInput) (a b : Arrays) (annotation : Option ConversionPattern) (s : Arrays) (marks unconverted converted marks_now_is unconverted_now_is converted_now_is : List ℕ) : Type 0 where
-  pub marks_now : marks_now_is ≡ put (unless_short (evidence_short n a b s marks unconverted converted) (kept_marks n ct a b annotation s)) marks
-  pub unconverted_now :
-      unconverted_now_is ≡ put (unless_short (evidence_short n a b s marks unconverted converted) (kept_unconverted n ct a b annotation s)) unconverted
-  pub converted_now : converted_now_is ≡ put (unless_short (evidence_short n a b s marks unconverted converted) (kept_converted n ct a b annotation s)) converted
+pub record EvidenceAs (n : ℕ) (ct : CtInput) (a b : Arrays) (annotation : Option ConversionPattern) (s : Arrays) (before now : EvidenceArrays) : Type 0 where
+  pub marks : now.marks ≡ put (unless_short (evidence_short n a b s before) (kept_marks n ct a b annotation s)) before.marks
+  pub unconverted : now.unconverted ≡ put (unless_short (evidence_short n a b s before) (kept_unconverted n ct a b annotation s)) before.unconverted
+  pub converted : now.converted ≡ put (unless_short (evidence_short n a b s before) (kept_converted n ct a b annotation s)) before.converted

@@ -5,13 +5,16 @@
 ghost use Rattle.std.specs.Prelude.{◌≡◌, false, [], ◌∷◌, ◌≤◌, length};
 ghost use Rattle.lists.specs.Output.{put};
 ghost use Rattle.lists.specs.Table.{tabulate};
+ghost use Rattle.methylation.specs.Outputs.{evidence_out, SameEvidence};
 ghost use Rattle.vanilla_caller.specs.Strand.{arrays_in};
 ghost use Rattle.duplex_arrays.specs.Positions.{arrays_short};
 ghost use Rattle.duplex_evidence.specs.Kept.{mark_of, marked_at, EvidenceAs};
 
 use duplex_call::keeps_evidence;
 use duplex_molecule::CtInput;
-use methylation::{ConversionPattern, EvidenceLengths, EvidenceSlices, evidence_if};
+use methylation::{
+    ConversionPattern, EvidenceLengths, EvidenceOutputs, EvidenceSlices, evidence_if,
+};
 use vanilla_caller::VanillaConsensusRead;
 
 // Whether one of these lengths is below n. The marks that a strand has are not looked at.
@@ -70,7 +73,7 @@ fn fill_counts(
 
 // Writes the evidence of one of the strands A and B, where it is annotated, at the first n positions; nothing where an array is
 // shorter than n. The marks come first, since bytes alone go 16 at once, then each count by its mark.
-// Lent outputs stay apart: the borrow checker has no rule for a struct of them that is passed on.
+// The strands and n come apart: that the arrays reach n is what is tested here.
 #[tactic(auto, using(lists::proofs::Output::put_none, crate::proofs::Kept::by_marks, lists::proofs::Output::put_holds, lists::proofs::Table::length_tabulate), unfolding(duplex_arrays::specs::Positions::arrays_short, duplex_arrays::specs::Positions::unless_short, lists::specs::Part::only_if, crate::specs::Kept::kept_marks, crate::specs::Kept::kept_unconverted, crate::specs::Kept::kept_converted))]
 pub fn write_evidence(
     ct: CtInput,
@@ -78,25 +81,24 @@ pub fn write_evidence(
     b: VanillaConsensusRead,
     own: VanillaConsensusRead,
     n: usize,
-    marks_out: &mut [u8],
-    unconverted_out: &mut [u32],
-    converted_out: &mut [u32],
+    out: &mut EvidenceOutputs<'_>,
 )
-    ensures { EvidenceAs n ct (arrays_in a.entry) (arrays_in b.entry) own.entry.annotation (arrays_in own.entry)
-        marks_out.old unconverted_out.old converted_out.old
-        marks_out.new unconverted_out.new converted_out.new }
+    ensures same_references { SameEvidence out.old out.new }
+    ensures written { EvidenceAs n ct (arrays_in a.entry) (arrays_in b.entry) own.entry.annotation (arrays_in own.entry) (evidence_out out.old) (evidence_out out.new) }
 {
-    let out = EvidenceLengths {
-        marks: marks_out.len(),
-        unconverted: unconverted_out.len(),
-        converted: converted_out.len(),
-    };
     if own.annotation.is_none() {
         return;
     }
-    if evidence_short(n, a.bases.len(), b.bases.len(), own.evidence.lengths(), out) {
+    if evidence_short(
+        n,
+        a.bases.len(),
+        b.bases.len(),
+        own.evidence.lengths(),
+        out.lengths(),
+    ) {
         return;
     }
-    fill_marks(own.annotation, ct, a.bases, b.bases, n, marks_out);
-    fill_counts(own.evidence, marks_out, n, unconverted_out, converted_out);
+    let marks = &mut *out.marks;
+    fill_marks(own.annotation, ct, a.bases, b.bases, n, marks);
+    fill_counts(own.evidence, marks, n, out.unconverted, out.converted);
 }

@@ -1,10 +1,11 @@
 // The consensus gate, from duplex_caller.rs: whether a record's strands were covered deeply enough. Uses refusals, numbers,
-// duplex_min_reads and duplex_reads.
+// duplex_depths, duplex_min_reads and duplex_reads.
 #![tactic(auto)]
 
 ghost use Rattle.std.specs.Prelude.{◌≡◌};
 ghost use Rattle.duplex_gate.specs.ConsensusGate.{largest_within, consensus_gate};
 
+use duplex_depths::RecordDepths;
 use duplex_min_reads::{reaches, validate_min_reads};
 use refusals::{MAX_POSITIONS, Refusal, refuse};
 
@@ -17,9 +18,10 @@ struct Depths {
 
 // The largest of each strand's depths within the record's length, uncapped; 0 where there are none.
 // One loop goes over both strands as far as both reach, for speed: two folds, one per strand, took a fifth longer at 300 positions.
-fn largest_within(positions: usize, ab: &[u16], ba: &[u16]) -> Depths
-    ensures { (result.ab ≡ largest_within positions ab.now) × (result.ba ≡ largest_within positions ba.now) }
+fn largest_within(r: RecordDepths) -> Depths
+    ensures { (result.ab ≡ largest_within r.entry.positions r.entry.ab.now) × (result.ba ≡ largest_within r.entry.positions r.entry.ba.now) }
 {
+    let RecordDepths { positions, ab, ba } = r;
     let ab_end = positions.min(ab.len());
     let ba_end = positions.min(ba.len());
     let both = ab_end.min(ba_end);
@@ -41,22 +43,20 @@ fn largest_within(positions: usize, ab: &[u16], ba: &[u16]) -> Depths
     }
 }
 
-// The consensus gate of a record of so many positions: whether its strands' largest depths there, uncapped, reach the thresholds.
-// An absent strand has no depths. Refuses by the thresholds' rows, then by 7.
+// The consensus gate of a record: whether its strands' largest depths within its positions, uncapped, reach the thresholds. Refuses by
+// the thresholds' rows, then by 7.
 pub fn duplex_consensus_has_minimum_reads(
-    positions: usize,
-    ab_depths: &[u16],
-    ba_depths: &[u16],
+    r: RecordDepths,
     min_reads: &[u32],
 ) -> Result<bool, Refusal>
-    ensures { result ≡ consensus_gate positions ab_depths.now ba_depths.now min_reads.now }
+    ensures { result ≡ consensus_gate r.entry.positions r.entry.ab.now r.entry.ba.now min_reads.now }
 {
     let thresholds = validate_min_reads(min_reads)?;
     refuse(
-        (MAX_POSITIONS < positions)
-            | ((MAX_POSITIONS < ab_depths.len()) | (MAX_POSITIONS < ba_depths.len())),
+        (MAX_POSITIONS < r.positions)
+            | ((MAX_POSITIONS < r.ab.len()) | (MAX_POSITIONS < r.ba.len())),
         Refusal::TooLong,
     )?;
-    let largest = largest_within(positions, ab_depths, ba_depths);
+    let largest = largest_within(r);
     Ok(reaches(thresholds, largest.ab as u32, largest.ba as u32))
 }

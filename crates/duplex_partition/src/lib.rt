@@ -9,7 +9,7 @@ ghost use Rattle.duplex_partition.specs.Partition.{strand_of, read_strand, offen
 use lists::{part, part_leaves};
 use refusals::{MAX_READS, Refusal, refuse};
 
-// A read's MI as a part of a byte buffer, or none.
+// A read's MI as a part of a byte buffer, or none, as C lays it out.
 #[repr(C)]
 #[derive(Clone, Copy)]
 pub struct MiPart {
@@ -26,7 +26,7 @@ pub enum MiStrand {
     B,
 }
 
-// The first read's MI without its last two bytes, as a part of the caller's bytes.
+// The first read's MI without its last two bytes, as a part of the caller's bytes: C is told where it is, and no slice comes back.
 #[derive(Clone, Copy)]
 pub struct BaseMi {
     pub offset: usize,
@@ -91,11 +91,10 @@ fn read_leaves(size: usize, read: MiPart) -> bool
 fn any_leaves(size: usize, reads: &[MiPart]) -> bool
     ensures { result ≡ any_mi_leaves size reads.now }
 {
-    let mut met = false;
-    for &read in reads {
-        met |= read_leaves(size, read);
-    }
-    met
+    // Every read is looked at, as in the definition: `any`, which stops at the first, was no quicker.
+    reads
+        .iter()
+        .fold(false, |met, &read| met | read_leaves(size, read))
 }
 
 fn write_partition(bytes: &[u8], reads: &[MiPart], a_out: &mut [u16], b_out: &mut [u16]) -> Counts

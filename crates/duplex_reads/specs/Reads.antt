@@ -1,12 +1,12 @@
 -- What a read's flags say, and the read gate, document 01.
-use Rattle.std.specs.Prelude.{ℕ, ◌+◌, Bool, true, ◌&&◌, Option, Result, List, [], ◌∷◌, ◌++◌, length, get_or, count_by, fold}
+use Rattle.std.specs.Prelude.{ℕ, ◌+◌, Bool, true, ◌&&◌, Option, Some, None, Result, List, [], ◌∷◌, ◌++◌, length, get_or, count_by, fold}
 use Rattle.std.specs.Bool.{beq}
 use Rattle.refusals.specs.declared.Refusal.{Refusal}
 use Rattle.refusals.specs.declared.Refusal.TheVariants.{TooManyReads}
 use Rattle.refusals.specs.Refusal.{Fault, ◌if◌, too_many, refused as refused_by}
 use Rattle.refusals.specs.Outcome.{answer}
 use Rattle.flags.specs.Flags.{paired, unmapped, mate_unmapped, reverse, first_segment, last_segment, is_set}
-use Rattle.duplex_min_reads.specs.MinReads.{faults, min_reads, reaches_all}
+use Rattle.duplex_min_reads.specs.MinReads.{faults, min_reads, reaches_all, refused}
 use Rattle.duplex_reads.specs.declared.ReadType.{ReadType}
 use Rattle.duplex_reads.specs.declared.ReadType.TheVariants.{Fragment, R1, R2}
 
@@ -32,6 +32,15 @@ count_r1 reads = count_by is_paired_r1 reads
 -- A gate's answer: refused by the thresholds, then by the faults of what is counted, or whether the two strands' counts are enough.
 abbrev pub gate : List ℕ → List Fault → ℕ → ℕ → Result Bool Refusal
 gate ts own a b = answer (refused_by (faults ts ++ own)) (reaches_all (min_reads ts) a b)
+
+-- Of two refusals the first decides.
+abbrev pub first_of : Option Refusal → Option Refusal → Option Refusal
+first_of None own = own
+first_of (Some row) own = Some row
+
+-- The same where the refusal of what is counted is known.
+abbrev pub gate_answer : List ℕ → Option Refusal → ℕ → ℕ → Result Bool Refusal
+gate_answer ts own a b = answer (first_of (refused ts) own) (reaches_all (min_reads ts) a b)
 
 -- The reads of A and of B, and the thresholds.
 abbrev pub read_gate : List ℕ → List ℕ → List ℕ → Result Bool Refusal

@@ -1,5 +1,5 @@
 // Entry points over numbers: the calls of a molecule's reads, the gates and the partition, with answers as numbers. What a call
-// answers is the library's. Uses refusals, replies, duplex_reads, duplex_gate and duplex_partition.
+// answers is the library's. Uses refusals, replies, duplex_reads, duplex_depths, duplex_gate and duplex_partition.
 #![tactic(auto)]
 
 ghost use Rattle.std.specs.Prelude.{◌≡◌};
@@ -8,6 +8,7 @@ ghost use Rattle.duplex_reads.specs.Reads.{read_gate, same_strand};
 ghost use Rattle.duplex_gate.specs.ConsensusGate.{consensus_gate};
 ghost use Rattle.rust_reads.specs.Replies.{partition_reply, PartitionRepliedAs};
 
+use duplex_depths::RecordDepths;
 use duplex_gate::duplex_consensus_has_minimum_reads;
 use duplex_partition::{MiPart, Partition, partition_records_by_strand};
 use duplex_reads::{are_all_same_strand, has_minimum_number_of_reads};
@@ -27,6 +28,7 @@ pub struct PartitionReply {
     pub length: usize,
 }
 
+// The numbers are those that C sees.
 impl From<Result<Partition, Refusal>> for PartitionReply {
     ghost from_gives = { λ answer reply. reply ≡ partition_reply answer };
 
@@ -94,7 +96,12 @@ pub extern "C" fn gedrashiw_duplex_consensus_has_minimum_reads(
 ) -> Number
     ensures { result ≡ bit_reply (consensus_gate positions ab_depths.now ba_depths.now min_reads.now) }
 {
-    Number::from(duplex_consensus_has_minimum_reads(positions, ab_depths, ba_depths, min_reads))
+    let r = RecordDepths {
+        positions,
+        ab: ab_depths,
+        ba: ba_depths,
+    };
+    Number::from(duplex_consensus_has_minimum_reads(r, min_reads))
 }
 
 // 1: all reads have one orientation; 0: they have not.

@@ -28,6 +28,7 @@ pub struct Thresholds {
     pub yx: u32,
 }
 
+// The numbers are those that C sees.
 impl From<Result<MinReads, Refusal>> for Thresholds {
     ghost from_gives = { λ answer reply. reply ≡ thresholds_reply answer };
 
@@ -83,7 +84,7 @@ pub extern "C" fn gedrashiw_written_flags(read_type: u8) -> Number
     )
 }
 
-// 0 where no strand is named, 1 for A, 2 for B.
+// 0 where no strand is named, 1 for A, 2 for B: the numbers that C sees.
 #[unsafe(no_mangle)]
 pub extern "C" fn gedrashiw_extract_strand_from_mi_bytes(mi_bytes: &[u8]) -> u8
     ensures { result ≡ strand_number (strand_of mi_bytes.now) }

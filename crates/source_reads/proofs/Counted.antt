@@ -36,11 +36,19 @@ use Rattle.duplex_molecule.specs.Molecule.{is_error, call_at}
 use Rattle.duplex_molecule.specs.declared.CtInput.{CtInput}
 use Rattle.duplex_molecule.specs.declared.CtInput.TheVariants.{Neither}
 use Rattle.duplex_call.specs.Annotated.{expected}
-use Rattle.source_reads.specs.Bases.{unmasked_at, Within, bases_errors}
+use Rattle.source_reads.specs.Bases.{unmasked_at, bases_errors}
 use Rattle.source_reads.specs.Reads.{none, read_leaves, reaches, read_error, read_errors, one_more, add_error, added_errors, expected_at, counted_length, counted_errors, expected_bases, shown_at, shown_errors}
 use Rattle.source_reads.specs.declared.SourceRead.{SourceRead}
 
 -- ---- the positions that are counted
+-- Each has at least n places.
+pub record Within (n : ℕ) (bases_a quals_a bases_b quals_b out : List ℕ) : Type 0 where
+  pub a : n ≤ length bases_a
+  pub qa : n ≤ length quals_a
+  pub b : n ≤ length bases_b
+  pub qb : n ≤ length quals_b
+  pub own : n ≤ length out
+
 module _ (positions : ℕ) (bases_a quals_a bases_b quals_b errors : List ℕ) where
   abbrev lengths : List ℕ
   lengths = positions ∷ length bases_a ∷ length quals_a ∷ length bases_b ∷ length quals_b ∷ length errors ∷ 1024 ∷ []

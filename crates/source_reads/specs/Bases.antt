@@ -1,5 +1,5 @@
 -- The bases of one read, what it should show, and the errors counted so far.
-use Rattle.std.specs.Prelude.{ℕ, ◌≤◌, List, length, get_or}
+use Rattle.std.specs.Prelude.{ℕ, List, get_or}
 use Rattle.lists.specs.Output.{put}
 use Rattle.lists.specs.Table.{tabulate}
 use Rattle.duplex_molecule.specs.Molecule.{is_error}
@@ -14,14 +14,6 @@ base_at base qual = record { base = base; qual = qual }
 -- The unmasked base at position i where there is no call.
 abbrev pub unmasked_at : List ℕ → List ℕ → List ℕ → List ℕ → ℕ → ℕ
 unmasked_at bases_a quals_a bases_b quals_b i = (uncalled (get_or bases_a i 0) (get_or quals_a i 0) (get_or bases_b i 0) (get_or quals_b i 0)).raw
-
--- Each has at least n places.
-pub record Within (n : ℕ) (bases_a quals_a bases_b quals_b out : List ℕ) : Type 0 where
-  pub a : n ≤ length bases_a
-  pub qa : n ≤ length quals_a
-  pub b : n ≤ length bases_b
-  pub qb : n ≤ length quals_b
-  pub own : n ≤ length out
 
 -- The errors of the first n bases, each against what should be shown there, added to the numbers.
 unfoldable pub bases_errors : ℕ → List ℕ → (ℕ → ℕ) → List ℕ → List ℕ

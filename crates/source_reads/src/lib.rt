@@ -7,7 +7,7 @@ ghost use Rattle.lists.specs.Output.{put};
 ghost use Rattle.lists.specs.Table.{tabulate};
 ghost use Rattle.numbers.specs.Numbers.{smallest};
 ghost use Rattle.duplex_position.specs.Combination.{uncalled};
-ghost use Rattle.source_reads.specs.Bases.{base_at, unmasked_at, Within, bases_errors};
+ghost use Rattle.source_reads.specs.Bases.{base_at, unmasked_at, bases_errors};
 ghost use Rattle.source_reads.specs.Reads.{any_leaves, one_more, expected_at, expected_bases, shown_errors, counted_errors};
 
 use duplex_call::expected_base;
@@ -33,6 +33,24 @@ pub struct StrandBases<'a> {
     pub quals: &'a [u8],
 }
 
+// Strands A and B, which of them is the C-to-T one, and how many positions of the record that they make are asked for.
+#[derive(Clone, Copy)]
+pub struct CombinedBases<'a> {
+    pub ct: CtInput,
+    pub positions: usize,
+    pub a: StrandBases<'a>,
+    pub b: StrandBases<'a>,
+}
+
+// What reads should show at the positions that are asked for, of which each array may have fewer: `first` is for reads without the flag
+// 0x80, `last` for those with it.
+#[derive(Clone, Copy)]
+pub struct ShownBases<'a> {
+    pub positions: usize,
+    pub first: &'a [u8],
+    pub last: &'a [u8],
+}
+
 fn base_at(s: StrandBases<'_>, i: usize) -> StrandBase
     requires { (i < length s.bases.now) × (i < length s.quals.now) }
     ensures { result ≡ base_at (get_or s.entry.bases.now i 0) (get_or s.entry.quals.now i 0) }
@@ -48,23 +66,41 @@ fn base_at(s: StrandBases<'_>, i: usize) -> StrandBase
 pub fn list_leaves(reads: &[SourceRead], size: usize) -> bool
     ensures { result ≡ any_leaves size reads.now }
 {
+    // Every read is looked at, as in the definition: `any`, which stops at the first, was no quicker over duplex_partition's reads.
     reads.iter().fold(false, |met, read| {
         met | part_leaves(read.offset, read.length, size)
     })
 }
 
-// As many positions as are asked for, no more than each array has, and no more than a strand may have.
+// As many positions as are asked for, no more than each array has, and no more than a strand may have. Of the arrays only how long
+// they are is asked, so that any lengths will do.
 pub fn counted_length(
     positions: usize,
-    a: StrandBases<'_>,
-    b: StrandBases<'_>,
+    a_bases: usize,
+    a_quals: usize,
+    b_bases: usize,
+    b_quals: usize,
     errors: usize,
 ) -> usize
-    ensures { result ≡ smallest (positions ∷ length a.entry.bases.now ∷ length a.entry.quals.now ∷ length b.entry.bases.now ∷ length b.entry.quals.now ∷ errors ∷ 1024 ∷ []) }
+    ensures { result ≡ smallest (positions ∷ a_bases ∷ a_quals ∷ b_bases ∷ b_quals ∷ errors ∷ 1024 ∷ []) }
 {
-    let within_a = positions.min(a.bases.len()).min(a.quals.len());
-    let within_b = within_a.min(b.bases.len()).min(b.quals.len());
+    let within_a = positions.min(a_bases).min(a_quals);
+    let within_b = within_a.min(b_bases).min(b_quals);
     within_b.min(errors).min(MAX_POSITIONS)
+}
+
+// The same of two strands' arrays.
+fn counted_within(s: CombinedBases<'_>, errors: usize) -> usize
+    ensures { result ≡ smallest (s.entry.positions ∷ length s.entry.a.bases.now ∷ length s.entry.a.quals.now ∷ length s.entry.b.bases.now ∷ length s.entry.b.quals.now ∷ errors ∷ 1024 ∷ []) }
+{
+    counted_length(
+        s.positions,
+        s.a.bases.len(),
+        s.a.quals.len(),
+        s.b.bases.len(),
+        s.b.quals.len(),
+        errors,
+    )
 }
 
 // The base before it is masked, where there is no call.
@@ -85,32 +121,45 @@ fn one_more(error: bool, so_far: u16) -> u16
     so_far
 }
 
-// Writes what each read should show at the first n positions where no position has a call.
+// Strands A and B, each of which has a base and a quality at all positions that are asked for.
+#[derive(Clone, Copy)]
+struct Reaching<'a> {
+    s: CombinedBases<'a>,
+    ghost of_a: { (s.positions ≤ length s.a.bases.now) × (s.positions ≤ length s.a.quals.now) },
+    ghost of_b: { (s.positions ≤ length s.b.bases.now) × (s.positions ≤ length s.b.quals.now) },
+}
+
+// Writes what each read should show at the first positions where no position has a call.
 #[tactic(auto, using(lists::proofs::Output::begin, lists::proofs::Table::length_tabulate, lists::proofs::Told::next_table))]
-fn write_uncalled(n: usize, a: StrandBases<'_>, b: StrandBases<'_>, out: &mut [u8])
-    requires { Within n a.bases.now a.quals.now b.bases.now b.quals.now out.old }
-    ensures { out.new ≡ put (tabulate n (unmasked_at a.entry.bases.now a.entry.quals.now b.entry.bases.now b.entry.quals.now)) out.old }
+fn write_uncalled(reaching: Reaching<'_>, out: &mut [u8])
+    requires { reaching.s.positions ≤ length out.old }
+    ensures { out.new ≡ put (tabulate reaching.entry.s.positions (unmasked_at reaching.entry.s.a.bases.now reaching.entry.s.a.quals.now reaching.entry.s.b.bases.now reaching.entry.s.b.quals.now)) out.old }
 {
-    for i in 0..n {
+    let CombinedBases {
+        positions,
+        a,
+        b,
+        ..
+    } = reaching.s;
+    for i in 0..positions {
         out[i] = unmasked_base(base_at(a, i), base_at(b, i));
     }
 }
 
-// Writes what reads with the flag 0x80, or those without it, should show at the first n positions.
+// Writes what reads with the flag 0x80, or those without it, should show at the first positions.
 // The flag is a read's own, whether it is the last of its pair; it is asked once for all positions.
 #[tactic(auto, using(lists::proofs::Output::begin, lists::proofs::Table::length_tabulate, lists::proofs::Told::next_table))]
-fn write_called(
-    ct: CtInput,
-    last: bool,
-    n: usize,
-    a: StrandBases<'_>,
-    b: StrandBases<'_>,
-    out: &mut [u8],
-)
-    requires { Within n a.bases.now a.quals.now b.bases.now b.quals.now out.old }
-    ensures { out.new ≡ put (tabulate n (λ i. expected_at ct a.entry.bases.now a.entry.quals.now b.entry.bases.now b.entry.quals.now i last)) out.old }
+fn write_called(reaching: Reaching<'_>, last: bool, out: &mut [u8])
+    requires { reaching.s.positions ≤ length out.old }
+    ensures { out.new ≡ put (tabulate reaching.entry.s.positions (λ i. expected_at reaching.entry.s.ct reaching.entry.s.a.bases.now reaching.entry.s.a.quals.now reaching.entry.s.b.bases.now reaching.entry.s.b.quals.now i last)) out.old }
 {
-    for i in 0..n {
+    let CombinedBases {
+        ct,
+        positions,
+        a,
+        b,
+    } = reaching.s;
+    for i in 0..positions {
         out[i] = expected_base(ct, base_at(a, i), base_at(b, i), last);
     }
 }
@@ -118,22 +167,19 @@ fn write_called(
 // What reads with the flag 0x80, or those without it, should show at the first positions: as many as are asked for, and no more
 // than each array has. Behind them 0. Worked out once, it serves every read.
 // The flag is a read's own, whether it is the last of its pair; it is asked once for all positions.
-pub fn expected_bases(
-    ct: CtInput,
-    last: bool,
-    positions: usize,
-    a: StrandBases<'_>,
-    b: StrandBases<'_>,
-) -> [u8; 1024]
-    ensures { result ≡ expected_bases ct last positions a.entry.bases.now a.entry.quals.now b.entry.bases.now b.entry.quals.now }
+pub fn expected_bases(s: CombinedBases<'_>, last: bool) -> [u8; 1024]
+    ensures { result ≡ expected_bases s.entry.ct last s.entry.positions s.entry.a.bases.now s.entry.a.quals.now s.entry.b.bases.now s.entry.b.quals.now }
 {
     // No heap: arrays of the most that is looked at.
     let mut out = [0u8; 1024];
-    let n = counted_length(positions, a, b, 1024);
-    if ct == CtInput::Neither {
-        write_uncalled(n, a, b, &mut out);
+    let positions = counted_within(s, 1024);
+    let reaching = Reaching {
+        s: CombinedBases { positions, ..s },
+    };
+    if s.ct == CtInput::Neither {
+        write_uncalled(reaching, &mut out);
     } else {
-        write_called(ct, last, n, a, b, &mut out);
+        write_called(reaching, last, &mut out);
     }
     out
 }
@@ -148,18 +194,15 @@ fn add_shown_errors(bases: &[u8], n: usize, shown: &[u8], errors: &mut [u16])
     }
 }
 
-// Adds the errors of a read at the first positions: as many as are asked for, and no more than each array has. `first` is what reads
-// without the flag 0x80 should show, `last` what those with it should.
-pub fn add_read_errors(
-    read: SourceRead,
-    bytes: &[u8],
-    positions: usize,
-    first: &[u8],
-    last: &[u8],
-    errors: &mut [u16],
-)
-    ensures { errors.new ≡ shown_errors (read ∷ []) bytes.now positions first.now last.now errors.old }
+// Adds the errors of a read at the first positions, no more than there are numbers, against what it should show.
+pub fn add_read_errors(read: SourceRead, bytes: &[u8], shown: ShownBases<'_>, errors: &mut [u16])
+    ensures { errors.new ≡ shown_errors (read ∷ []) bytes.now shown.entry.positions shown.entry.first.now shown.entry.last.now errors.old }
 {
+    let ShownBases {
+        positions,
+        first,
+        last,
+    } = shown;
     let bases = part(bytes, read.offset, read.length);
     let all = positions.min(first.len()).min(last.len()).min(errors.len());
     let n = all.min(bases.len());
@@ -171,18 +214,11 @@ pub fn add_read_errors(
 }
 
 // The same of each read.
-fn count_shown_errors(
-    reads: &[SourceRead],
-    bytes: &[u8],
-    positions: usize,
-    first: &[u8],
-    last: &[u8],
-    errors: &mut [u16],
-)
-    ensures { errors.new ≡ shown_errors reads.now bytes.now positions first.now last.now errors.old }
+fn count_shown_errors(reads: &[SourceRead], bytes: &[u8], shown: ShownBases<'_>, errors: &mut [u16])
+    ensures { errors.new ≡ shown_errors reads.now bytes.now shown.entry.positions shown.entry.first.now shown.entry.last.now errors.old }
 {
     for &read in reads {
-        add_read_errors(read, bytes, positions, first, last, errors);
+        add_read_errors(read, bytes, shown, errors);
     }
 }
 
@@ -191,19 +227,22 @@ fn count_shown_errors(
 pub fn count_read_errors(
     reads: &[SourceRead],
     bytes: &[u8],
-    ct: CtInput,
-    positions: usize,
-    a: StrandBases<'_>,
-    b: StrandBases<'_>,
+    s: CombinedBases<'_>,
     errors: &mut [u16],
 )
-    ensures { errors.new ≡ counted_errors reads.now bytes.now ct positions a.entry.bases.now a.entry.quals.now b.entry.bases.now b.entry.quals.now errors.old }
+    ensures { errors.new ≡ counted_errors reads.now bytes.now s.entry.ct s.entry.positions s.entry.a.bases.now s.entry.a.quals.now s.entry.b.bases.now s.entry.b.quals.now errors.old }
 {
-    let n = counted_length(positions, a, b, errors.len());
-    if n == 0 {
+    let positions = counted_within(s, errors.len());
+    if positions == 0 {
         return;
     }
-    let first = expected_bases(ct, false, n, a, b);
-    let last = expected_bases(ct, true, n, a, b);
-    count_shown_errors(reads, bytes, n, &first, &last, errors);
+    let counted = CombinedBases { positions, ..s };
+    let first = expected_bases(counted, false);
+    let last = expected_bases(counted, true);
+    let shown = ShownBases {
+        positions,
+        first: &first,
+        last: &last,
+    };
+    count_shown_errors(reads, bytes, shown, errors);
 }

@@ -10,15 +10,15 @@ use Rattle.duplex_evidence.specs.Kept.{kept_marks, kept_unconverted, kept_conver
 use Rattle.duplex_evidence.proofs.Kept.{by_marks}
 use Rattle.duplex_evidence.proofs.write_evidence.Goals as goal
 
-pub returns : goal.returns
+pub returns-clause-written : goal.returns-clause-written
 unfolding kept_marks kept_unconverted kept_converted only_if
-returns c =
+returns-clause-written c =
     let given = c.args in
     let there : is_some given.own.annotation ≡ true = grind arith in
-    let enough = rw c.lengths.ensures at (sym c.evidence_short.ensures ∙ c.if-evidence_short.false) in
+    let enough = rw (c.lengths.ensures, c.lengths-2.ensures) at (sym c.evidence_short.ensures ∙ c.if-evidence_short.false) in
     let written = by_marks given.own.annotation given.ct (arrays_in given.a) (arrays_in given.b) (arrays_in given.own) given.n c.fill_marks.ensures c.fill_counts.ensures.unconverted_out_after c.fill_counts.ensures.converted_out_after in
     record {
-      marks_now = all_written _ _ enough (rw there written.marks);
-      unconverted_now = all_written _ _ enough (rw there written.unconverted);
-      converted_now = all_written _ _ enough (rw there written.converted);
+      marks = all_written _ _ enough (rw there written.marks);
+      unconverted = all_written _ _ enough (rw there written.unconverted);
+      converted = all_written _ _ enough (rw there written.converted);
     }

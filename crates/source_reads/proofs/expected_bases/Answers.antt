@@ -3,20 +3,20 @@ use Prim.Native.Nat.{ℕ}
 use mathlib.Core.Path.{◌≡◌}
 use borrow.Author.Rules.{rules}
 use Rattle.duplex_molecule.specs.declared.CtInput.TheVariants.{Neither}
-use lib.ListN.{length-replicate}
+use lib.ListN.{replicate, length-replicate}
 use Rattle.source_reads.proofs.Counted.{expected_room, expected_uncalled, expected_called}
 use Rattle.source_reads.proofs.expected_bases.Goals as goal
 
 pub write_uncalled-requires : goal.write_uncalled-requires
-write_uncalled-requires c = expected_room _ _ _ _ _ _ (length-replicate {A = ℕ} 1024 0) c.counted_length-n.ensures
+write_uncalled-requires c = (expected_room _ _ _ _ _ (replicate {A = ℕ} 1024 0) (length-replicate {A = ℕ} 1024 0) c.counted_within-positions.ensures).own
 
 pub write_called-requires : goal.write_called-requires
-write_called-requires c = expected_room _ _ _ _ _ _ (length-replicate {A = ℕ} 1024 0) c.counted_length-n.ensures
+write_called-requires c = (expected_room _ _ _ _ _ (replicate {A = ℕ} 1024 0) (length-replicate {A = ℕ} 1024 0) c.counted_within-positions.ensures).own
 
 pub returns-then-eq : goal.returns-then-eq
 returns-then-eq c =
-    let neither : c.args.ct ≡ Neither = search rules in
-    expected_uncalled _ _ _ _ _ _ _ c.counted_length-n.ensures neither c.write_uncalled.ensures
+    let neither : c.args.s.ct ≡ Neither = search rules in
+    expected_uncalled _ _ _ _ _ _ _ c.counted_within-positions.ensures neither c.write_uncalled.ensures
 
 pub returns-else-eq : goal.returns-else-eq
-returns-else-eq c = expected_called _ _ _ _ _ _ _ c.counted_length-n.ensures c.write_called.ensures
+returns-else-eq c = expected_called _ _ _ _ _ _ _ c.counted_within-positions.ensures c.write_called.ensures

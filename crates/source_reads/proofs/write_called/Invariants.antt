@@ -6,4 +6,4 @@ use Rattle.source_reads.proofs.write_called.Given as goal
 
 abbrev pub invariant-loop-i : goal.invariant-loop-i
 invariant-loop-i l =
-    Filling l.n (tabulate l.n (λ i. expected_at l.ct l.a.bases.now l.a.quals.now l.b.bases.now l.b.quals.now i l.last)) l.initial.out l.i l.out
+    Filling l.positions (tabulate l.positions (λ i. expected_at l.ct l.a.bases.now l.a.quals.now l.b.bases.now l.b.quals.now i l.last)) l.initial.out l.i l.out

@@ -6,4 +6,4 @@ use Rattle.source_reads.proofs.write_uncalled.Given as goal
 
 abbrev pub invariant-loop-i : goal.invariant-loop-i
 invariant-loop-i l =
-    Filling l.n (tabulate l.n (unmasked_at l.a.bases.now l.a.quals.now l.b.bases.now l.b.quals.now)) l.initial.out l.i l.out
+    Filling l.positions (tabulate l.positions (unmasked_at l.a.bases.now l.a.quals.now l.b.bases.now l.b.quals.now)) l.initial.out l.i l.out
