@@ -22,7 +22,7 @@ use Rattle.refusals.specs.declared.Refusal.TheVariants.{TooLong, Ragged, TooMany
 use Rattle.refusals.specs.Claims.{Clear}
 use Rattle.refusals.specs.Outcome.{answer, after}
 use Rattle.refusals.proofs.Claims.{none_lost}
-use Rattle.refusals.proofs.Condition.{nor_where, not_too_long}
+use Rattle.refusals.proofs.Condition.{neither, not_too_long}
 use Rattle.caller.specs.Short.{short}
 use Rattle.vanilla_caller.specs.Strand.{lengths, four}
 use Rattle.vanilla_caller.proofs.Strand.{even}
@@ -31,7 +31,7 @@ use Rattle.duplex_molecule.specs.declared.CtInput.{CtInput}
 use Rattle.duplex_outputs.specs.Outputs.{RecordArrays, record_lengths, record_too_short, LeavesRecord}
 use Rattle.duplex_outputs.proofs.Outputs.{roomy}
 use Rattle.duplex_strands.specs.Combine.{uncounted, combined_errors}
-use Rattle.duplex_kind.specs.Kind.{Strand, annotated, positions, kind_of, strand_faults}
+use Rattle.duplex_kind.specs.Kind.{Strand, positions, kind_of, strand_faults}
 use Rattle.duplex_kind.specs.declared.DuplexConsensus.{DuplexConsensus}
 use Rattle.duplex_kind.specs.declared.DuplexConsensus.TheVariants.{Ab, Ba, Both}
 use Rattle.duplex_kind.proofs.Kind.{Passes, taken, is_both}
@@ -54,11 +54,13 @@ first_passed false false false false short h = refl
 
 -- A strand that passes row 8 has as many qualities as bases.
 as_many : (s : Strand) → Passes s → length s.arrays.quals ≡ positions s
-as_many s p = (even (annotated s) (lengths s.arrays) p.not_uneven).own.0
+as_many s p = (even s.annotation s.arrays p.not_uneven).own.0
 
 -- A strand that passes has no more positions than it may have.
 no_longer : (s : Strand) → Passes s → positions s ≤ 1024
-no_longer s p = (not_too_long (four (lengths s.arrays)) (nor_where (too_long (four (lengths s.arrays))) (annotated s) _ p.not_long).0).0
+no_longer s p =
+    let own = four (lengths s.annotation s.arrays) in
+    (not_too_long own (neither (too_long own) _ p.not_long).0).0
 
 module _ (a b : Strand) (reads : List SourceRead) (bytes : List ℕ) (before : RecordArrays) where
   abbrev outside : Bool
@@ -90,8 +92,8 @@ module _ (a b : Strand) (reads : List SourceRead) (bytes : List ℕ) (before : R
 
     room : n ≤ length before.errors
     room =
-        let enough : record_too_short n (annotated a) (annotated b) (record_lengths before) ≡ false = ap (outputs_short a b before) (sym k) ∙ clear.1.1.1.1.0 in
-        (roomy n (annotated a) (annotated b) (record_lengths before) enough).own.1.1.0
+        let enough : record_too_short n (record_lengths a.annotation b.annotation before) ≡ false = ap (outputs_short a b before) (sym k) ∙ clear.1.1.1.1.0 in
+        (roomy n a.annotation b.annotation before enough).own.1.1.0
 
     early : refused_by (strand_faults a b true (length reads) outside) ≡ None
     early = first_passed _ _ _ _ _ z

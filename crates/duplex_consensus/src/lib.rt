@@ -14,12 +14,13 @@ ghost use Rattle.duplex_consensus.specs.Consensus.{wrong_strand, counted_positio
 
 use duplex_kind::{DuplexConsensus, GivenReads};
 use duplex_molecule::ct_input;
+use duplex_outputs::RecordOutputs;
 use duplex_record::duplex_record;
 use duplex_reply::{DuplexRecord, strand_in};
-use methylation::EvidenceSlices;
+use methylation::{EvidenceOutputs, EvidenceSlices};
 use refusals::Refusal;
 use replies::annotation_of;
-use source_reads::{SourceRead, StrandBases, count_read_errors, list_leaves};
+use source_reads::{CombinedBases, SourceRead, StrandBases, count_read_errors, list_leaves};
 use vanilla_caller::VanillaConsensusRead;
 
 // How many positions of a record have their errors counted: all of a record of two strands with a list.
@@ -36,14 +37,11 @@ pub fn counted_positions(made: Result<Option<DuplexConsensus>, Refusal>, listed:
     }
 }
 
-// What is given of the reads, where they are listed.
+// What is given of the reads, where they are listed. The flag and the reads are the entry's, for C.
 fn given_list(listed: bool, reads: &[SourceRead], size: usize) -> Option<GivenReads>
     ensures { result ≡ given_list listed (length reads.now) (any_leaves size reads.now) }
 {
-    if !listed {
-        return None;
-    }
-    Some(GivenReads {
+    listed.then(|| GivenReads {
         count: reads.len(),
         leaving: list_leaves(reads, size),
     })
@@ -105,9 +103,10 @@ pub extern "C" fn gedrashiw_duplex_consensus_typed(
             converted: a_converted,
         },
     };
+    // No `?`, here and for B: a function that answers a Result would have this whole contract once more.
     let a = match strand_in(a_present, a_annotation, a) {
         Ok(a) => a,
-        Err(refusal) => return DuplexRecord::from(Err::<Option<DuplexConsensus>, Refusal>(refusal)),
+        Err(refusal) => return DuplexRecord::from(refusal),
     };
     let b = VanillaConsensusRead {
         bases: b_bases,
@@ -123,37 +122,37 @@ pub extern "C" fn gedrashiw_duplex_consensus_typed(
     };
     let b = match strand_in(b_present, b_annotation, b) {
         Ok(b) => b,
-        Err(refusal) => return DuplexRecord::from(Err::<Option<DuplexConsensus>, Refusal>(refusal)),
+        Err(refusal) => return DuplexRecord::from(refusal),
     };
     let list = given_list(listed != 0, reads, bytes.len());
-    let made = duplex_record(
-        a,
-        b,
-        list,
-        bases_out,
-        quals_out,
-        errors_out,
-        a_marks_out,
-        a_unconverted_out,
-        a_converted_out,
-        b_marks_out,
-        b_unconverted_out,
-        b_converted_out,
-    );
-    count_read_errors(
-        reads,
-        bytes,
-        ct_input(annotation_of(a_annotation), annotation_of(b_annotation)),
-        counted_positions(made, listed != 0),
-        StrandBases {
+    let mut out = RecordOutputs {
+        bases: bases_out,
+        quals: quals_out,
+        errors: errors_out,
+    };
+    let mut a_out = EvidenceOutputs {
+        marks: a_marks_out,
+        unconverted: a_unconverted_out,
+        converted: a_converted_out,
+    };
+    let mut b_out = EvidenceOutputs {
+        marks: b_marks_out,
+        unconverted: b_unconverted_out,
+        converted: b_converted_out,
+    };
+    let made = duplex_record(a, b, list, &mut out, &mut a_out, &mut b_out);
+    let s = CombinedBases {
+        ct: ct_input(annotation_of(a_annotation), annotation_of(b_annotation)),
+        positions: counted_positions(made, listed != 0),
+        a: StrandBases {
             bases: a_bases,
             quals: a_quals,
         },
-        StrandBases {
+        b: StrandBases {
             bases: b_bases,
             quals: b_quals,
         },
-        errors_out,
-    );
+    };
+    count_read_errors(reads, bytes, s, out.errors);
     DuplexRecord::from(made)
 }

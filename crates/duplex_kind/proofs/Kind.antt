@@ -13,7 +13,7 @@ use Rattle.refusals.specs.Outcome.{answer}
 use Rattle.refusals.proofs.Claims.{none_lost}
 use Rattle.refusals.proofs.Condition.{both_hold, neither}
 use Rattle.vanilla_caller.specs.Strand.{lengths, strand_too_long, strand_ragged}
-use Rattle.duplex_kind.specs.Kind.{Strand, given, annotated, positions, record_length, covered, kind_of, long, uneven, strand_faults, record_kind}
+use Rattle.duplex_kind.specs.Kind.{Strand, given, positions, record_length, covered, kind_of, long, uneven, strand_faults, record_kind}
 use Rattle.duplex_kind.specs.declared.DuplexConsensus.{DuplexConsensus}
 use Rattle.duplex_kind.specs.declared.DuplexConsensus.TheVariants.{Ab, Ba, Both}
 
@@ -40,8 +40,8 @@ where_present false met e h = absurd (true≢false (sym h))
 
 -- A strand passes rows 7 and 8.
 pub record Passes (s : Strand) : Type 0 where
-  pub not_long : strand_too_long (annotated s) (lengths s.arrays) ≡ false
-  pub not_uneven : strand_ragged (annotated s) (lengths s.arrays) ≡ false
+  pub not_long : strand_too_long (lengths s.annotation s.arrays) ≡ false
+  pub not_uneven : strand_ragged (lengths s.annotation s.arrays) ≡ false
 
 -- An answer that is no refusal, and one that is.
 opened : {A : Type 0} (row : Option Refusal) (k : A) {r : A} → answer row k ≡ Ok r → (row ≡ None) × (k ≡ r)

@@ -32,17 +32,16 @@ given_of (Some s) = strand true s.annotation (arrays_in s)
 -- What its lengths and depths say: all that the rows over what is given and the kind look at.
 pub record Given : Type 0 where
   pub present : Bool
-  pub annotation : Option ConversionPattern
   pub lengths : Lengths
   pub depths : List ℕ
 
 abbrev pub given : Strand → Given
-given s = record { present = s.present; annotation = s.annotation; lengths = lengths s.arrays; depths = s.arrays.depths }
+given s = record { present = s.present; lengths = lengths s.annotation s.arrays; depths = s.arrays.depths }
 
 -- As the code has it.
 abbrev pub given_in : Option GivenStrand → Given
 given_in None = given (given_of None)
-given_in (Some s) = record { present = true; annotation = s.annotation; lengths = s.lengths; depths = s.depths.now }
+given_in (Some s) = record { present = true; lengths = s.lengths; depths = s.depths.now }
 
 -- What is given of a list of reads that may be absent.
 abbrev pub count_in : Option GivenReads → ℕ
@@ -95,10 +94,10 @@ kind_of a b = kind_by (given a) (given b)
 
 -- Rows 7 and 8 for a strand that may be absent. An absent one's arrays are not looked at.
 abbrev pub long : Given → Bool
-long s = s.present && strand_too_long (is_annotated s.annotation) s.lengths
+long s = s.present && strand_too_long s.lengths
 
 abbrev pub uneven : Given → Bool
-uneven s = s.present && strand_ragged (is_annotated s.annotation) s.lengths
+uneven s = s.present && strand_ragged s.lengths
 
 -- The rows that are tested over all that is given, both strands and the list, whether or not there will be a record. The list
 -- counts by how many reads it has and whether a read's part leaves its buffer.

@@ -7,7 +7,6 @@ ghost use Rattle.std.specs.Prelude.{is_some};
 ghost use Rattle.duplex_kind.specs.Kind.{given, given_of, given_in, count_in, leaving_in, shorter_present, some_depth, kind_by, long, uneven, kind_given};
 
 use lists::front;
-use methylation::ConversionPattern;
 use refusals::{MAX_READS, Refusal, refuse};
 use vanilla_caller::{Lengths, VanillaConsensusRead, strand_ragged, strand_too_long};
 
@@ -21,15 +20,15 @@ pub enum DuplexConsensus {
     Both(usize),
 }
 
-// What is given of a strand: its annotation, how long its arrays are, and its depths.
+// What is given of a strand: how long its arrays are, and its depths.
 #[derive(Clone, Copy)]
 pub struct GivenStrand<'a> {
-    pub annotation: Option<ConversionPattern>,
     pub lengths: Lengths,
     pub depths: &'a [u16],
 }
 
 // What is given of a list of reads: how many there are, and whether a read's part leaves its buffer.
+// `leaving` is row 10's condition and `count` is tested by row 9: neither says whether the other counts.
 #[derive(Clone, Copy, Debug, PartialEq, Eq)]
 pub struct GivenReads {
     pub count: usize,
@@ -40,14 +39,10 @@ pub struct GivenReads {
 pub fn given_strand<'a>(s: Option<VanillaConsensusRead<'a>>) -> Option<GivenStrand<'a>>
     ensures { given_in result ≡ given (given_of s.entry) }
 {
-    match s {
-        Some(s) => Some(GivenStrand {
-            annotation: s.annotation,
-            lengths: s.lengths(),
-            depths: s.depths,
-        }),
-        None => None,
-    }
+    s.map(|s| GivenStrand {
+        lengths: s.lengths(),
+        depths: s.depths,
+    })
 }
 
 // The length of a record: the shorter of the strands present.
@@ -88,14 +83,14 @@ fn kind_of(a: Option<GivenStrand>, b: Option<GivenStrand>) -> Option<DuplexConse
 fn is_long(s: Option<GivenStrand>) -> bool
     ensures { result ≡ long (given_in s.entry) }
 {
-    s.is_some_and(|s| strand_too_long(s.annotation.is_some(), s.lengths))
+    s.is_some_and(|s| strand_too_long(s.lengths))
 }
 
 // Row 8's.
 fn is_uneven(s: Option<GivenStrand>) -> bool
     ensures { result ≡ uneven (given_in s.entry) }
 {
-    s.is_some_and(|s| strand_ragged(s.annotation.is_some(), s.lengths))
+    s.is_some_and(|s| strand_ragged(s.lengths))
 }
 
 // The kind of the record that two strands make, either of which may be absent, and how many positions it has. Refuses by 7, 8, 9, 10.

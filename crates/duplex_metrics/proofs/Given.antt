@@ -20,21 +20,21 @@ use Rattle.duplex_metrics.specs.declared.CountsLengths.{CountsLengths}
 use Rattle.duplex_metrics.specs.declared.MetricsLengths.{MetricsLengths}
 use Rattle.duplex_metrics.specs.declared.MetricsRecord.{MetricsRecord}
 
-module _ (a : Counts) (bases errors : List ℕ) where
-  abbrev lengths_by : Option Counts → MetricsLengths
+module _ (a : Counts ℕ) (bases errors : List ℕ) where
+  abbrev lengths_by : Option (Counts ℕ) → MetricsLengths
   lengths_by b = record { a = lengths_in a; b = second_lengths b; bases = length bases; errors = length errors }
 
-  abbrev record_by : Option Counts → MetricsRecord
+  abbrev record_by : Option (Counts ℕ) → MetricsRecord
   record_by b =
       metrics_record (strand_figures a.depths.now a.errors.now) (figures_in_counts b) (record_figures a.depths.now (depths_in b) errors)
       (record_no_calls a.depths.now (depths_in b) bases)
 
-  lengths_given : (b : Option Counts) → lengths_by b ≡ lengths (input_of a b bases errors)
+  lengths_given : (b : Option (Counts ℕ)) → lengths_by b ≡ lengths (input_of a b bases errors)
   lengths_given None = refl
   lengths_given (Some b) = refl
 
   pub told_given :
-      (b : Option Counts) {n : CountsLengths} {m : Option CountsLengths} {told : Result (Unit {0}) Refusal}
+      (b : Option (Counts ℕ)) {n : CountsLengths} {m : Option CountsLengths} {told : Result (Unit {0}) Refusal}
       → n ≡ lengths_in a
       → m ≡ second_lengths b
       → told ≡ answer (refused (metrics_faults (record { a = n; b = m; bases = length bases; errors = length errors }))) tt
@@ -42,14 +42,14 @@ module _ (a : Counts) (bases errors : List ℕ) where
   told_given b n m e =
       e ∙ rw (n, m) (ap (λ (l : MetricsLengths). answer (refused (metrics_faults l)) tt) (lengths_given b))
 
-  pub record_given : (b : Option Counts) → record_by b ≡ record_of (input_of a b bases errors)
+  pub record_given : (b : Option (Counts ℕ)) → record_by b ≡ record_of (input_of a b bases errors)
   unfolding only_if
   record_given None = refl
   record_given (Some b) = refl
 
 -- An absent second strand's arrays are not looked at.
 pub second_given :
-    (a b : Counts) (second : Bool) (bases errors : List ℕ)
+    (a b : Counts ℕ) (second : Bool) (bases errors : List ℕ)
     → metrics_of (input_of a (then_some second b) bases errors) ≡ metrics_of (input a.depths.now a.errors.now second b.depths.now b.errors.now bases errors)
 unfolding only_if
 second_given a b true bases errors = refl

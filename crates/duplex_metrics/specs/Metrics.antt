@@ -95,7 +95,7 @@ figures_c x = record_figures x.a (only_if x.second x.b) x.errors
 abbrev pub no_calls : Input → ℕ
 no_calls x = record_no_calls x.a (only_if x.second x.b) x.bases
 
-abbrev pub counts_lengths : List ℕ → List ℕ → CountsLengths
+abbrev pub counts_lengths : {A : Type 0} → List A → List A → CountsLengths
 counts_lengths depths errors = record { depths = length depths; errors = length errors }
 
 abbrev pub lengths : Input → MetricsLengths
@@ -140,30 +140,30 @@ strand_metrics depths errors = answer (rate_refused (length depths) (length erro
 
 -- For the code, which has a strand's two arrays as one value.
 
-abbrev pub input_of : Counts → Option Counts → List ℕ → List ℕ → Input
+abbrev pub input_of : Counts ℕ → Option (Counts ℕ) → List ℕ → List ℕ → Input
 input_of a None bases errors = input a.depths.now a.errors.now false [] [] bases errors
 input_of a (Some b) bases errors = input a.depths.now a.errors.now true b.depths.now b.errors.now bases errors
 
-abbrev pub lengths_in : Counts → CountsLengths
+abbrev pub lengths_in : {T : Type 0} → Counts T → CountsLengths
 lengths_in s = counts_lengths s.depths.now s.errors.now
 
-abbrev pub second_lengths : Option Counts → Option CountsLengths
+abbrev pub second_lengths : Option (Counts ℕ) → Option CountsLengths
 second_lengths None = None
 second_lengths (Some s) = Some (lengths_in s)
 
 -- The depths of a strand that may be absent, and its figures.
-abbrev pub depths_in : Option Counts → List ℕ
+abbrev pub depths_in : Option (Counts ℕ) → List ℕ
 depths_in None = []
 depths_in (Some s) = s.depths.now
 
-abbrev pub figures_in_counts : Option Counts → Figures
+abbrev pub figures_in_counts : Option (Counts ℕ) → Figures
 figures_in_counts None = strand_figures [] []
 figures_in_counts (Some s) = strand_figures s.depths.now s.errors.now
 
 -- As many depths as errors, and few.
-abbrev pub Even : Counts → Type 0
+abbrev pub Even : Counts ℕ → Type 0
 Even s = (length s.depths.now ≡ length s.errors.now) × (length s.errors.now ≤ 1024)
 
-abbrev pub EvenIfThere : Option Counts → Type 0
+abbrev pub EvenIfThere : Option (Counts ℕ) → Type 0
 EvenIfThere None = Unit {0}
 EvenIfThere (Some s) = Even s

@@ -6,7 +6,7 @@
 ghost use Rattle.std.specs.Prelude.{◌≡◌};
 ghost use Rattle.duplex_kind.specs.Kind.{given_of};
 ghost use Rattle.duplex_reason.specs.Reason.{carries, converted_by, others_alone, disagree, sum_counts, holds, quality_reasons, first_of, reason_at};
-ghost use Rattle.duplex_reason.specs.Record.{shown_at, within, reason_in, reason_of};
+ghost use Rattle.duplex_reason.specs.Record.{shown_at, within, reason_told, reason_of};
 
 use dna::{NO_CALL_BASE, eq_ignore_ascii_case, to_ascii_uppercase};
 use duplex_kind::{DuplexConsensus, given_strand, record_kind};
@@ -65,10 +65,7 @@ fn carries_call(s: Shown, other: Shown) -> bool
 fn shows_converted(annotation: Option<ConversionPattern>, base: u8) -> bool
     ensures { result ≡ converted_by annotation base }
 {
-    match annotation {
-        None => false,
-        Some(pattern) => eq_ignore_ascii_case(base, pattern.bases().converted),
-    }
+    annotation.is_some_and(|pattern| eq_ignore_ascii_case(base, pattern.bases().converted))
 }
 
 // Whether the other strand's quality counts alone.
@@ -100,6 +97,7 @@ fn is_close_qualities(a: Shown, b: Shown) -> bool
     is_disagreement(a, b) & ((by == 1) | (by == 2))
 }
 
+// Whether the sum of the qualities counts: at equal bases, and at a call where no quality counts alone.
 fn does_sum_count(a: Shown, b: Shown) -> bool
     ensures { result ≡ sum_counts a b }
 {
@@ -162,20 +160,21 @@ pub fn reason_at(a: Shown, b: Shown) -> NoCallReason
 pub fn shown_at(s: Option<VanillaConsensusRead>, position: usize) -> Shown
     ensures { result ≡ shown_at (given_of s.entry) position }
 {
-    match s {
-        Some(s) => Shown {
+    let nothing = Shown {
+        annotation: None,
+        base: 0,
+        qual: 0,
+        mark: 0,
+    };
+    s.map_or(
+        nothing,
+        |s| Shown {
             annotation: s.annotation,
             base: get_or(s.bases, position, 0),
             qual: get_or(s.quals, position, 0),
             mark: get_or(s.evidence.marks, position, 0),
         },
-        None => Shown {
-            annotation: None,
-            base: 0,
-            qual: 0,
-            mark: 0,
-        },
-    }
+    )
 }
 
 // An answer for the positions of a record of n positions; the others are outside.
@@ -189,16 +188,22 @@ fn within(n: usize, reason: NoCallReason, position: usize) -> NoCallReason
     }
 }
 
-// What is said of a position of a record of this kind, or where there is none, whose strands show this there.
-pub fn reason_in(made: Option<DuplexConsensus>, a: Shown, b: Shown, position: usize) -> NoCallReason
-    ensures { result ≡ reason_in made a b position }
+// What is said of a position of a record of this kind, or where there is none, whose strands show this there; a refusal is handed on.
+pub fn reason_in(
+    made: Result<Option<DuplexConsensus>, Refusal>,
+    a: Shown,
+    b: Shown,
+    position: usize,
+) -> Result<NoCallReason, Refusal>
+    ensures { result ≡ reason_told made a b position }
 {
-    match made {
+    let reason = match made? {
         None => NoCallReason::Outside,
         Some(DuplexConsensus::Ab(n)) => within(n, NoCallReason::SingleStrand, position),
         Some(DuplexConsensus::Ba(n)) => within(n, NoCallReason::SingleStrand, position),
         Some(DuplexConsensus::Both(n)) => within(n, reason_at(a, b), position),
-    }
+    };
+    Ok(reason)
 }
 
 // Why a position of the record that two strands make shows N, either of which may be absent. Source reads play no part: they change no
@@ -210,8 +215,8 @@ pub fn no_call_reason(
 ) -> Result<NoCallReason, Refusal>
     ensures { result ≡ reason_of (given_of a.entry) (given_of b.entry) position }
 {
-    let made = record_kind(given_strand(a), given_strand(b), None)?;
+    let made = record_kind(given_strand(a), given_strand(b), None);
     let at_a = shown_at(a, position);
     let at_b = shown_at(b, position);
-    Ok(reason_in(made, at_a, at_b, position))
+    reason_in(made, at_a, at_b, position)
 }

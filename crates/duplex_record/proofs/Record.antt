@@ -21,7 +21,7 @@ use Rattle.duplex_outputs.specs.Outputs.{RecordArrays, record_lengths, record_to
 use Rattle.duplex_outputs.proofs.Outputs.{record_refused}
 use Rattle.duplex_single.specs.Single.{single_arrays, single_refused, SingleAs}
 use Rattle.duplex_strands.specs.Combine.{uncounted, combine_refused, CombinedAs}
-use Rattle.duplex_kind.specs.Kind.{Strand, Given, given, annotated, positions, kind_of, strand_faults, kind_given, record_kind}
+use Rattle.duplex_kind.specs.Kind.{Strand, Given, given, positions, kind_of, strand_faults, kind_given, record_kind}
 use Rattle.duplex_kind.specs.declared.DuplexConsensus.{DuplexConsensus}
 use Rattle.duplex_kind.specs.declared.DuplexConsensus.TheVariants.{Ab, Ba, Both}
 use Rattle.duplex_kind.proofs.Kind.{Passes, is_refused, is_none, is_ab, is_ba, is_both}
@@ -66,14 +66,14 @@ neither_holds true y h k = absurd cc
 neither_holds false y h k = k
 
 -- A strand that passes rows 7 and 8 is refused alone only by 12.
-single_12 : (s : Strand) (out : RecordArrays) → Passes s → single_refused s.annotation s.arrays (first_strand out) ≡ only_12 (record_too_short (positions s) (annotated s) false (record_lengths out))
+single_12 : (s : Strand) (out : RecordArrays) → Passes s → single_refused s.annotation s.arrays (first_strand out) ≡ only_12 (record_too_short (positions s) (record_lengths s.annotation None out))
 single_12 s out p = rows _ _ _ p.not_long p.not_uneven
 
 both_12 :
     (a b : Strand) (out : RecordArrays)
     → Passes a
     → Passes b
-    → combine_refused a.annotation a.arrays b.annotation b.arrays out ≡ only_12 (record_too_short (min (positions a) (positions b)) (annotated a) (annotated b) (record_lengths out))
+    → combine_refused a.annotation a.arrays b.annotation b.arrays out ≡ only_12 (record_too_short (min (positions a) (positions b)) (record_lengths a.annotation b.annotation out))
 both_12 a b out p q = rows _ _ _ (neither_holds _ _ p.not_long q.not_long) (neither_holds _ _ p.not_uneven q.not_uneven)
 
 -- An answer handed on.

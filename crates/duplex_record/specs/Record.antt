@@ -8,7 +8,7 @@ use Rattle.duplex_molecule.specs.Molecule.{ct_input}
 use Rattle.duplex_outputs.specs.Outputs.{RecordArrays, record_of, record_lengths, record_too_short, LeavesRecord}
 use Rattle.duplex_strands.specs.Combine.{both_arrays}
 use Rattle.duplex_single.specs.Single.{single_arrays}
-use Rattle.duplex_kind.specs.Kind.{Strand, annotated, kind_of, strand_faults}
+use Rattle.duplex_kind.specs.Kind.{Strand, kind_of, strand_faults}
 use Rattle.duplex_kind.specs.declared.DuplexConsensus.{DuplexConsensus}
 use Rattle.duplex_kind.specs.declared.DuplexConsensus.TheVariants.{Ab, Ba, Both}
 
@@ -27,9 +27,9 @@ record_arrays a b listed counted (Some (Both n)) =
 -- Refusal 12's condition: only for what is written.
 abbrev pub outputs_short : Strand → Strand → RecordArrays → Option DuplexConsensus → Bool
 outputs_short a b out None = false
-outputs_short a b out (Some (Ab n)) = record_too_short n (annotated a) false (record_lengths out)
-outputs_short a b out (Some (Ba n)) = record_too_short n (annotated b) false (record_lengths out)
-outputs_short a b out (Some (Both n)) = record_too_short n (annotated a) (annotated b) (record_lengths out)
+outputs_short a b out (Some (Ab n)) = record_too_short n (record_lengths a.annotation None out)
+outputs_short a b out (Some (Ba n)) = record_too_short n (record_lengths b.annotation None out)
+outputs_short a b out (Some (Both n)) = record_too_short n (record_lengths a.annotation b.annotation out)
 
 -- Rows 7 to 10 are tested over all that is given, whether or not there will be a record.
 abbrev pub duplex_faults : Strand → Strand → Bool → ℕ → Bool → RecordArrays → List Fault

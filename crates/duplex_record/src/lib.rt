@@ -3,8 +3,9 @@
 // duplex_strands, duplex_annotated, duplex_single and duplex_kind.
 #![tactic(auto)]
 
-ghost use Rattle.std.specs.Prelude.{◌≡◌, is_some, []};
-ghost use Rattle.duplex_outputs.specs.Outputs.{record_of};
+ghost use Rattle.std.specs.Prelude.{◌≡◌, is_some};
+ghost use Rattle.methylation.specs.Outputs.{evidence_out, no_evidence, SameEvidence};
+ghost use Rattle.duplex_outputs.specs.Lent.{record_out, SameOutputs};
 ghost use Rattle.duplex_strands.specs.Combine.{uncounted};
 ghost use Rattle.duplex_kind.specs.Kind.{given_of, count_in, leaving_in};
 ghost use Rattle.duplex_record.specs.Parts.{lent_as, plain_of};
@@ -13,9 +14,10 @@ ghost use Rattle.duplex_record.specs.Record.{DuplexAs};
 use duplex_annotated::combine_strands_annotated;
 pub use duplex_kind::{DuplexConsensus, GivenReads};
 use duplex_kind::{given_strand, record_kind};
+use duplex_outputs::RecordOutputs;
 use duplex_single::gated_single_strand;
 use duplex_strands::combine_strands;
-use methylation::EvidenceSlices;
+use methylation::{EvidenceOutputs, EvidenceSlices};
 use refusals::Refusal;
 use vanilla_caller::VanillaConsensusRead;
 
@@ -23,44 +25,35 @@ use vanilla_caller::VanillaConsensusRead;
 fn lent<'a>(s: Option<VanillaConsensusRead<'a>>) -> VanillaConsensusRead<'a>
     ensures { given_of s.entry ≡ lent_as (is_some s.entry) result }
 {
-    match s {
-        Some(s) => s,
-        None => VanillaConsensusRead {
-            bases: &[],
-            quals: &[],
-            depths: &[],
-            errors: &[],
-            annotation: None,
-            evidence: EvidenceSlices {
-                marks: &[],
-                unconverted: &[],
-                converted: &[],
-            },
+    s.unwrap_or(VanillaConsensusRead {
+        bases: &[],
+        quals: &[],
+        depths: &[],
+        errors: &[],
+        annotation: None,
+        evidence: EvidenceSlices {
+            marks: &[],
+            unconverted: &[],
+            converted: &[],
         },
-    }
+    })
 }
 
 // The record of two strands, of one or of none. One strand alone goes to the first strand's outputs. Where reads are listed, the
 // errors of a record of two strands are left 0, to be counted. Refuses by 7, 8, 9, 10 whatever the record, then by 12 for what is
 // written.
-// Lent outputs stay apart: the borrow checker has no rule for a struct of them that is passed on.
 pub fn duplex_record(
     a: Option<VanillaConsensusRead>,
     b: Option<VanillaConsensusRead>,
     list: Option<GivenReads>,
-    bases_out: &mut [u8],
-    quals_out: &mut [u8],
-    errors_out: &mut [u16],
-    a_marks_out: &mut [u8],
-    a_unconverted_out: &mut [u32],
-    a_converted_out: &mut [u32],
-    b_marks_out: &mut [u8],
-    b_unconverted_out: &mut [u32],
-    b_converted_out: &mut [u32],
+    out: &mut RecordOutputs<'_>,
+    a_out: &mut EvidenceOutputs<'_>,
+    b_out: &mut EvidenceOutputs<'_>,
 ) -> Result<Option<DuplexConsensus>, Refusal>
-    ensures { DuplexAs (given_of a.entry) (given_of b.entry) (is_some list) (count_in list) (leaving_in list) uncounted
-        (record_of bases_out.old quals_out.old errors_out.old a_marks_out.old a_unconverted_out.old a_converted_out.old b_marks_out.old b_unconverted_out.old b_converted_out.old)
-        (record_of bases_out.new quals_out.new errors_out.new a_marks_out.new a_unconverted_out.new a_converted_out.new b_marks_out.new b_unconverted_out.new b_converted_out.new)
+    ensures same_references { SameOutputs out.old out.new × SameEvidence a_out.old a_out.new × SameEvidence b_out.old b_out.new }
+    ensures made { DuplexAs (given_of a.entry) (given_of b.entry) (is_some list) (count_in list) (leaving_in list) uncounted
+        (record_out out.old (evidence_out a_out.old) (evidence_out b_out.old))
+        (record_out out.new (evidence_out a_out.new) (evidence_out b_out.new))
         result }
 {
     let Some(kind) = record_kind(given_strand(a), given_strand(b), list)? else {
@@ -69,47 +62,19 @@ pub fn duplex_record(
     let a = lent(a);
     let b = lent(b);
     match kind {
-        DuplexConsensus::Ab(_) => gated_single_strand(
-            a,
-            bases_out,
-            quals_out,
-            errors_out,
-            a_marks_out,
-            a_unconverted_out,
-            a_converted_out,
-        )
-        .map(|n| Some(DuplexConsensus::Ab(n))),
-        DuplexConsensus::Ba(_) => gated_single_strand(
-            b,
-            bases_out,
-            quals_out,
-            errors_out,
-            a_marks_out,
-            a_unconverted_out,
-            a_converted_out,
-        )
-        .map(|n| Some(DuplexConsensus::Ba(n))),
+        DuplexConsensus::Ab(_) => gated_single_strand(a, out, a_out).map(|n| Some(
+            DuplexConsensus::Ab(n),
+        )),
+        DuplexConsensus::Ba(_) => gated_single_strand(b, out, a_out).map(|n| Some(
+            DuplexConsensus::Ba(n),
+        )),
         DuplexConsensus::Both(_) => {
             if a.annotation.is_some() | b.annotation.is_some() {
-                return combine_strands_annotated(
-                    a,
-                    b,
-                    list.is_some(),
-                    bases_out,
-                    quals_out,
-                    errors_out,
-                    a_marks_out,
-                    a_unconverted_out,
-                    a_converted_out,
-                    b_marks_out,
-                    b_unconverted_out,
-                    b_converted_out,
-                )
-                .map(|n| Some(DuplexConsensus::Both(n)));
+                return combine_strands_annotated(a, b, list.is_some(), out, a_out, b_out).map(
+                    |n| Some(DuplexConsensus::Both(n)),
+                );
             }
-            combine_strands(a, b, list.is_some(), bases_out, quals_out, errors_out).map(|n| Some(
-                DuplexConsensus::Both(n),
-            ))
+            combine_strands(a, b, list.is_some(), out).map(|n| Some(DuplexConsensus::Both(n)))
         }
     }
 }
@@ -118,42 +83,39 @@ pub fn duplex_record(
 fn plain<'a>(s: Option<VanillaConsensusRead<'a>>) -> Option<VanillaConsensusRead<'a>>
     ensures { given_of result ≡ plain_of s.entry }
 {
-    match s {
-        Some(s) => Some(VanillaConsensusRead {
-            annotation: None,
-            ..s
-        }),
-        None => None,
-    }
+    s.map(|s| VanillaConsensusRead {
+        annotation: None,
+        ..s
+    })
 }
 
 // The same of strands without their annotations, whose evidence goes nowhere.
-// Lent outputs stay apart: the borrow checker has no rule for a struct of them that is passed on.
 pub fn plain_record(
     a: Option<VanillaConsensusRead>,
     b: Option<VanillaConsensusRead>,
     list: Option<GivenReads>,
-    bases_out: &mut [u8],
-    quals_out: &mut [u8],
-    errors_out: &mut [u16],
+    out: &mut RecordOutputs<'_>,
 ) -> Result<Option<DuplexConsensus>, Refusal>
-    ensures { DuplexAs (plain_of a.entry) (plain_of b.entry) (is_some list) (count_in list) (leaving_in list) uncounted
-        (record_of bases_out.old quals_out.old errors_out.old [] [] [] [] [] [])
-        (record_of bases_out.new quals_out.new errors_out.new [] [] [] [] [] [])
+    ensures same_references { SameOutputs out.old out.new }
+    ensures made { DuplexAs (plain_of a.entry) (plain_of b.entry) (is_some list) (count_in list) (leaving_in list) uncounted
+        (record_out out.old no_evidence no_evidence)
+        (record_out out.new no_evidence no_evidence)
         result }
 {
     duplex_record(
         plain(a),
         plain(b),
         list,
-        bases_out,
-        quals_out,
-        errors_out,
-        &mut [],
-        &mut [],
-        &mut [],
-        &mut [],
-        &mut [],
-        &mut [],
+        out,
+        &mut EvidenceOutputs {
+            marks: &mut [],
+            unconverted: &mut [],
+            converted: &mut [],
+        },
+        &mut EvidenceOutputs {
+            marks: &mut [],
+            unconverted: &mut [],
+            converted: &mut [],
+        },
     )
 }

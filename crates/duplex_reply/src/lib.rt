@@ -3,8 +3,9 @@
 #![tactic(auto)]
 
 ghost use Rattle.std.specs.Prelude.{◌≡◌};
+ghost use Rattle.refusals.specs.Refusal.{number_of};
 ghost use Rattle.vanilla_caller.specs.Strand.{arrays_in};
-ghost use Rattle.duplex_reply.specs.Reply.{record_for};
+ghost use Rattle.duplex_reply.specs.Reply.{no_record, record_for};
 ghost use Rattle.duplex_reply.specs.Strand.{told_by, strand_by};
 
 use duplex_kind::DuplexConsensus;
@@ -22,20 +23,32 @@ pub struct DuplexRecord {
     pub positions: usize,
 }
 
-// The answer of a combination as numbers.
+impl From<Refusal> for DuplexRecord {
+    ghost from_gives = { λ refusal reply. reply ≡ no_record (number_of refusal) };
+
+    fn from(refusal: Refusal) -> DuplexRecord {
+        DuplexRecord {
+            refused: refusal.number(),
+            kind: 0,
+            positions: 0,
+        }
+    }
+}
+
+// The answer of a combination as numbers, which are those that C sees.
 impl From<Result<Option<DuplexConsensus>, Refusal>> for DuplexRecord {
     ghost from_gives = { λ answer reply. reply ≡ record_for answer };
 
     fn from(answer: Result<Option<DuplexConsensus>, Refusal>) -> DuplexRecord {
-        let (refused, kind, positions) = match answer {
-            Err(refusal) => (refusal.number(), 0, 0),
-            Ok(None) => (0, 0, 0),
-            Ok(Some(DuplexConsensus::Ab(n))) => (0, 1, n),
-            Ok(Some(DuplexConsensus::Ba(n))) => (0, 2, n),
-            Ok(Some(DuplexConsensus::Both(n))) => (0, 3, n),
+        let (kind, positions) = match answer {
+            Err(refusal) => return DuplexRecord::from(refusal),
+            Ok(None) => (0, 0),
+            Ok(Some(DuplexConsensus::Ab(n))) => (1, n),
+            Ok(Some(DuplexConsensus::Ba(n))) => (2, n),
+            Ok(Some(DuplexConsensus::Both(n))) => (3, n),
         };
         DuplexRecord {
-            refused,
+            refused: 0,
             kind,
             positions,
         }

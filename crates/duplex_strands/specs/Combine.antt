@@ -5,7 +5,6 @@ use Rattle.refusals.specs.declared.Refusal.TheVariants.{TooLong, Ragged, OutputT
 use Rattle.refusals.specs.Refusal.{Fault, ◌if◌, refused}
 use Rattle.refusals.specs.Outcome.{answer}
 use Rattle.methylation.specs.Arrays.{EvidenceArrays, evidence_arrays}
-use Rattle.methylation.specs.Methylation.{is_annotated}
 use Rattle.vanilla_caller.specs.Strand.{Arrays, lengths, strand_too_long, strand_ragged}
 use Rattle.vanilla_caller.specs.declared.Lengths.{Lengths}
 use Rattle.duplex_molecule.specs.declared.CtInput.{CtInput}
@@ -36,17 +35,17 @@ both_arrays listed counted n ct ma a mb b = record {
 }
 
 -- Rows 7 and 8 are tested over both strands, by their lengths and the outputs'.
-abbrev pub combine_faults : Option ConversionPattern → Lengths → Option ConversionPattern → Lengths → RecordLengths → List Fault
-combine_faults ma a mb b out =
-    (TooLong if (strand_too_long (is_annotated ma) a || strand_too_long (is_annotated mb) b))
-    ∷ (Ragged if (strand_ragged (is_annotated ma) a || strand_ragged (is_annotated mb) b))
-    ∷ (OutputTooShort if record_too_short (common_length a b) (is_annotated ma) (is_annotated mb) out)
+abbrev pub combine_faults : Lengths → Lengths → RecordLengths → List Fault
+combine_faults a b out =
+    (TooLong if (strand_too_long a || strand_too_long b))
+    ∷ (Ragged if (strand_ragged a || strand_ragged b))
+    ∷ (OutputTooShort if record_too_short (common_length a b) out)
     ∷ []
 
 abbrev pub combine_refused : Option ConversionPattern → Arrays → Option ConversionPattern → Arrays → RecordArrays → Option Refusal
-combine_refused ma a mb b out = refused (combine_faults ma (lengths a) mb (lengths b) (record_lengths out))
+combine_refused ma a mb b out = refused (combine_faults (lengths ma a) (lengths mb b) (record_lengths ma mb out))
 
 -- What a call that combines two strands answers and leaves in its outputs.
 pub record CombinedAs (ct : CtInput) (ma : Option ConversionPattern) (a : Arrays) (mb : Option ConversionPattern) (b : Arrays) (listed : Bool) (before now : RecordArrays) (r : Result ℕ Refusal) : Type 0 where
-  pub answered : r ≡ answer (combine_refused ma a mb b before) (common_length (lengths a) (lengths b))
-  pub outputs : LeavesRecord (combine_refused ma a mb b before) (both_arrays listed uncounted (common_length (lengths a) (lengths b)) ct ma a mb b) before now
+  pub answered : r ≡ answer (combine_refused ma a mb b before) (common_length (lengths ma a) (lengths mb b))
+  pub outputs : LeavesRecord (combine_refused ma a mb b before) (both_arrays listed uncounted (common_length (lengths ma a) (lengths mb b)) ct ma a mb b) before now

@@ -44,8 +44,8 @@ fn in_bits(r: MetricsRecord) -> MetricsBits
 
 // The metrics of a record, as duplex_metrics gives them. Refuses by 7, 8.
 pub fn metrics_bits(
-    a: Counts,
-    b: Option<Counts>,
+    a: Counts<u16>,
+    b: Option<Counts<u16>>,
     bases: &[u8],
     errors: &[u16],
 ) -> Result<MetricsBits, Refusal>

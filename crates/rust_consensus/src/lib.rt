@@ -14,11 +14,11 @@ ghost use Rattle.duplex_strands.specs.Combine.{CombinedAs};
 ghost use Rattle.duplex_single.specs.Single.{SingleAs};
 
 use duplex_annotated::combine_strands_annotated;
+use duplex_outputs::RecordOutputs;
 use duplex_single::gated_single_strand;
 use duplex_strands::combine_strands;
-use methylation::EvidenceSlices;
-use refusals::Refusal;
-use replies::{Count, annotation_in};
+use methylation::{EvidenceOutputs, EvidenceSlices};
+use replies::{Count, annotation_in, annotations_in};
 use vanilla_caller::VanillaConsensusRead;
 
 // A strand without annotation.
@@ -73,7 +73,12 @@ pub extern "C" fn gedrashiw_combine_strands(
 {
     let a = unannotated(a_bases, a_quals, a_depths, a_errors);
     let b = unannotated(b_bases, b_quals, b_depths, b_errors);
-    Count::from(combine_strands(a, b, listed != 0, bases_out, quals_out, errors_out))
+    let mut out = RecordOutputs {
+        bases: bases_out,
+        quals: quals_out,
+        errors: errors_out,
+    };
+    Count::from(combine_strands(a, b, listed != 0, &mut out))
 }
 
 // Combines strands that may be annotated. Refuses by 13, 7, 8, 12.
@@ -116,11 +121,10 @@ pub extern "C" fn gedrashiw_combine_strands_annotated(
         (record_of bases_out.new quals_out.new errors_out.new a_marks_out.new a_unconverted_out.new a_converted_out.new b_marks_out.new b_unconverted_out.new b_converted_out.new)
         result }
 {
-    let Ok(a_annotation) = annotation_in(a_annotation) else {
-        return Count::from(Err::<usize, Refusal>(Refusal::Broken));
-    };
-    let Ok(b_annotation) = annotation_in(b_annotation) else {
-        return Count::from(Err::<usize, Refusal>(Refusal::Broken));
+    // No `?`: a function that answers a Result would have this whole contract once more.
+    let (a_annotation, b_annotation) = match annotations_in(a_annotation, b_annotation) {
+        Ok(annotations) => annotations,
+        Err(refusal) => return Count::from(refusal),
     };
     let a = VanillaConsensusRead {
         bases: a_bases,
@@ -146,20 +150,22 @@ pub extern "C" fn gedrashiw_combine_strands_annotated(
             converted: b_converted,
         },
     };
-    Count::from(combine_strands_annotated(
-        a,
-        b,
-        listed != 0,
-        bases_out,
-        quals_out,
-        errors_out,
-        a_marks_out,
-        a_unconverted_out,
-        a_converted_out,
-        b_marks_out,
-        b_unconverted_out,
-        b_converted_out,
-    ))
+    let mut out = RecordOutputs {
+        bases: bases_out,
+        quals: quals_out,
+        errors: errors_out,
+    };
+    let mut a_out = EvidenceOutputs {
+        marks: a_marks_out,
+        unconverted: a_unconverted_out,
+        converted: a_converted_out,
+    };
+    let mut b_out = EvidenceOutputs {
+        marks: b_marks_out,
+        unconverted: b_unconverted_out,
+        converted: b_converted_out,
+    };
+    Count::from(combine_strands_annotated(a, b, listed != 0, &mut out, &mut a_out, &mut b_out))
 }
 
 // A strand alone as a record. Refuses by 13, 7, 8, 12.
@@ -187,8 +193,10 @@ pub extern "C" fn gedrashiw_gated_single_strand(
         (record_of bases_out.new quals_out.new errors_out.new marks_out.new unconverted_out.new converted_out.new [] [] [])
         result }
 {
-    let Ok(annotation) = annotation_in(annotation) else {
-        return Count::from(Err::<usize, Refusal>(Refusal::Broken));
+    // No `?`: a function that answers a Result would have this whole contract once more.
+    let annotation = match annotation_in(annotation) {
+        Ok(annotation) => annotation,
+        Err(refusal) => return Count::from(refusal),
     };
     let strand = VanillaConsensusRead {
         bases,
@@ -202,13 +210,15 @@ pub extern "C" fn gedrashiw_gated_single_strand(
             converted,
         },
     };
-    Count::from(gated_single_strand(
-        strand,
-        bases_out,
-        quals_out,
-        errors_out,
-        marks_out,
-        unconverted_out,
-        converted_out,
-    ))
+    let mut out = RecordOutputs {
+        bases: bases_out,
+        quals: quals_out,
+        errors: errors_out,
+    };
+    let mut evidence_out = EvidenceOutputs {
+        marks: marks_out,
+        unconverted: unconverted_out,
+        converted: converted_out,
+    };
+    Count::from(gated_single_strand(strand, &mut out, &mut evidence_out))
 }

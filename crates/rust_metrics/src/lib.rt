@@ -11,7 +11,7 @@ ghost use Rattle.duplex_metrics.specs.Metrics.{input, metrics_of, strand_metrics
 ghost use Rattle.metrics_bits.specs.Bits.{metrics_words};
 ghost use Rattle.rust_metrics.specs.Answers.{range_reply, figures_reply, metrics_reply};
 
-use duplex_depths::{DepthRange, combined_depths, depth_range};
+use duplex_depths::{DepthRange, RecordDepths, combined_depths, depth_range};
 use duplex_metrics::{Counts, Figures, strand_metrics};
 use metrics_bits::{MetricsBits, metrics_bits};
 use refusals::Refusal;
@@ -26,6 +26,7 @@ pub struct Range {
     pub max: u16,
 }
 
+// The numbers are those that C sees.
 impl From<Result<DepthRange, Refusal>> for Range {
     ghost from_gives = { λ answer reply. reply ≡ range_reply answer };
 
@@ -56,6 +57,7 @@ pub struct FiguresReply {
     pub errors: u32,
 }
 
+// The numbers are those that C sees.
 impl From<Result<Figures, Refusal>> for FiguresReply {
     ghost from_gives = { λ answer reply. reply ≡ figures_reply answer };
 
@@ -96,6 +98,7 @@ pub struct MetricsReply {
     pub nc: u32,
 }
 
+// The numbers are those that C sees.
 impl From<Result<MetricsBits, Refusal>> for MetricsReply {
     ghost from_gives = { λ answer reply. reply ≡ metrics_reply answer };
 
@@ -142,7 +145,7 @@ pub extern "C" fn gedrashiw_combined_depths(
     ensures value { result ≡ count_reply (answer (combined_refused positions ab.now ba.now out.old) positions) }
     ensures out_after { out.new ≡ after (combined_refused positions ab.now ba.now out.old) (combined_depths positions ab.now ba.now) out.old }
 {
-    Count::from(combined_depths(positions, ab, ba, out))
+    Count::from(combined_depths(RecordDepths { positions, ab, ba }, out))
 }
 
 // The smallest and the largest of a record's depths. Refuses by 7.
@@ -150,7 +153,7 @@ pub extern "C" fn gedrashiw_combined_depths(
 pub extern "C" fn gedrashiw_depth_range(positions: usize, ab: &[u16], ba: &[u16]) -> Range
     ensures { result ≡ range_reply (depth_range positions ab.now ba.now) }
 {
-    Range::from(depth_range(positions, ab, ba))
+    Range::from(depth_range(RecordDepths { positions, ab, ba }))
 }
 
 // The figures of a strand. Refuses by 7, 8.

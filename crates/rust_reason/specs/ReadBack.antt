@@ -6,7 +6,6 @@ use Rattle.refusals.specs.Refusal.{number_of}
 use Rattle.duplex_reason.specs.declared.NoCallReason.{NoCallReason}
 use Rattle.duplex_reason.specs.declared.NoCallReason.TheVariants.{Outside, SingleStrand, Called, ANoCall, BNoCall, BothNoCall, EqualQualities, CloseQualities, LowSum, LowConfirming}
 use Rattle.rust_reason.specs.Reply.{reason_for}
-use Rattle.rust_reason.specs.declared.Reason.{Reason}
 
 -- What a program takes from an answer that is no refusal; any other number stands for none.
 abbrev pub named : ℕ → Option NoCallReason

@@ -3,14 +3,18 @@
 use mathlib.Core.Path.{◌≡◌, refl, sym, ap, ◌∙◌}
 use mathlib.Core.Bool.{true, false, ◌||◌}
 use lib.ListN.{length}
-use Rattle.std.proofs.Common.{Ok, Err}
+use Rattle.std.proofs.Common.{Ok, Err, rules}
 use Rattle.methylation.specs.Choices.{annotation_of}
 use Rattle.replies.specs.Choices.{yes}
 use Rattle.replies.proofs.Replied.{turned_down, passed_on}
 use Rattle.vanilla_caller.specs.Strand.{arrays}
 use Rattle.duplex_molecule.specs.declared.CtInput.{CtInput}
-use Rattle.duplex_outputs.specs.Outputs.{record_of}
+use Rattle.methylation.specs.Outputs.{evidence_out}
+use Rattle.duplex_outputs.specs.Lent.{record_out}
+use Rattle.duplex_outputs.specs.Outputs.{RecordArrays, record_of}
 use Rattle.duplex_kind.specs.Kind.{strand, given_of}
+use Rattle.duplex_consensus.specs.Consensus.{ConsensusAs}
+use Rattle.duplex_reply.specs.Reply.{record_for, no_record}
 use Rattle.duplex_reply.specs.Strand.{told_by, strand_by, wrong_strand}
 use Rattle.source_reads.specs.Reads.{any_leaves, counted_errors}
 use Rattle.duplex_consensus.proofs.Made.{counted_as}
@@ -26,17 +30,18 @@ returns c =
     let told_a : strand_by a.a_present a.a_annotation x ≡ Ok (given_of c.in-Ok.a) = sym c.strand_in.ensures ∙ ap told_by c.in-Ok.is in
     let told_b : strand_by a.b_present a.b_annotation y ≡ Ok (given_of c.in-Ok-strand_in.b) = sym c.strand_in-2.ensures ∙ ap told_by c.in-Ok-strand_in.is in
     let ct = rw (c.annotation_of.ensures, c.annotation_of-2.ensures) at c.ct_input.ensures in
-    let made = numbered a.a_present a.a_annotation a.b_present a.b_annotation x y (yes a.listed) (length a.reads.now) (any_leaves (length a.bytes.now) a.reads.now) told_a told_b c.given_list-list.ensures c.duplex_record-made.ensures in
+    let made = numbered a.a_present a.a_annotation a.b_present a.b_annotation x y (yes a.listed) (length a.reads.now) (any_leaves (length a.bytes.now) a.reads.now) told_a told_b c.given_list-list.ensures c.duplex_record-made.ensures.made in
     let counted =
     counted_as (strand (yes a.a_present) (annotation_of a.a_annotation) x) (strand (yes a.b_present) (annotation_of a.b_annotation) y) (yes a.listed) a.reads.now a.bytes.now
     (record_of a.bases_out.now a.quals_out.now a.errors_out.now a.a_marks_out.now a.a_unconverted_out.now a.a_converted_out.now a.b_marks_out.now a.b_unconverted_out.now a.b_converted_out.now)
-    (record_of r.bases_out r.quals_out r.errors_out r.a_marks_out r.a_unconverted_out r.a_converted_out r.b_marks_out r.b_unconverted_out r.b_converted_out)
+    (record_out r.out (evidence_out r.a_out) (evidence_out r.b_out))
     refl made c.counted_positions.ensures
     (c.count_read_errors.ensures
-    ∙ ap (λ (t : CtInput). counted_errors a.reads.now a.bytes.now t c.counted_positions.result a.a_bases.now a.a_quals.now a.b_bases.now a.b_quals.now r.errors_out) ct) in
+    ∙ ap (λ (t : CtInput). counted_errors a.reads.now a.bytes.now t c.counted_positions.result a.a_bases.now a.a_quals.now a.b_bases.now a.b_quals.now r.out.errors.now) ct) in
     let right : (wrong_strand a.a_present a.a_annotation || wrong_strand a.b_present a.b_annotation) ≡ false =
     rw (read_in a.a_present a.a_annotation x told_a, read_in a.b_present a.b_annotation y told_b) in
-    passed_on c.duplex_record-made.result right c.from-2.ensures counted
+    let done = passed_on {Outputs = RecordArrays} {broken = no_record 13} {reply = record_for} {As = ConsensusAs (strand (yes a.a_present) (annotation_of a.a_annotation) x) (strand (yes a.b_present) (annotation_of a.b_annotation) y) (yes a.listed) a.reads.now a.bytes.now} c.duplex_record-made.result right c.from-2.ensures counted in
+    search (rules, done)
 
 pub returns-in-Err-strand_in : goal.returns-in-Err-strand_in
 returns-in-Err-strand_in c =
