@@ -1,5 +1,5 @@
 -- Evidence and counts between bytes and arrays of 1,024 places.
---     zeros                the array between two calls
+--     zeros                an array before a call
 --     evidence_read        evidence of at most so many positions is at the front of its arrays, all of it
 --     counted, summed      counts that `methylation_evidence` leaves in an array, written as bytes where there is room
 -- Assumes nothing.
@@ -22,7 +22,7 @@ use Rattle.methylation_evidence.specs.Counts.{tag_counts, counts_refused, summed
 use Rattle.methylation_evidence.proofs.Counts.{counts_length, summed_length}
 use Rattle.c_tags.specs.Parts.{Fits}
 
--- The array between two calls.
+-- An array before a call.
 abbrev pub zeros : List ℕ
 zeros = replicate 1024 0
 

@@ -1,5 +1,4 @@
 -- What is promised of a call over bytes, by its first test, the texts and the counts.
---     given, chosen, none_wrong     what an entry was given, as the parts have it
 --     same_test            its first test is the library's, over numbers
 --     early, late, all_written     what it promises where that test refuses, where the texts do, and where all is written
 --     few_places           how many positions there are at most
@@ -7,72 +6,44 @@
 --     left_counts          the counts that are written are the strands'
 -- Assumes nothing.
 use mathlib.Core.Path.{◌≡◌, refl, sym, ap, ◌∙◌}
-use mathlib.Core.Bool.{Bool, true, false, cond, ◌||◌}
+use mathlib.Core.Bool.{true}
 use mathlib.Core.List.{List}
 use Prim.Native.Nat.{ℕ, ◌/◌, ◌≤◌}
 use native.Mathlib.Omega.{arith}
 use lib.ListN.{length}
 use Rattle.std.proofs.Common.{Option, Some, None, Result, Ok, Err}
+use Rattle.std.specs.Option.{option_map_or}
 use Rattle.lists.specs.Output.{put}
 use Rattle.lists.specs.Part.{only_if}
 use Rattle.lists.specs.Table.{tabulate}
 use Rattle.refusals.specs.declared.Refusal.{Refusal}
-use Rattle.refusals.specs.declared.Refusal.TheVariants.{Broken}
 use Rattle.refusals.specs.Outcome.{answer}
 use Rattle.refusals.proofs.Outcome.{refused_by, passed_by}
 use Rattle.methylation.specs.Methylation.{is_annotated}
 use Rattle.methylation.specs.declared.ConversionPattern.{ConversionPattern}
+use Rattle.methylation.specs.declared.EvidenceLengths.{EvidenceLengths}
 use Rattle.methylation.specs.declared.MethylationMode.{MethylationMode}
-use Rattle.methylation.specs.Choices.{mode_in, mode_of, wrong_mode}
-use Rattle.replies.specs.Choices.{yes}
 use Rattle.byte_numbers.specs.Bytes.{words16, bytes16}
 use Rattle.byte_numbers.specs.Groups.{by_group}
 use Rattle.byte_numbers.proofs.Bytes.{length_numbers}
 use Rattle.byte_numbers.proofs.Groups.{length_by_group}
 use Rattle.molecule_evidence.specs.Evidence.{mark_in, count_in, counts_of as counts_in9, unconverted_of, converted_of}
-use Rattle.molecule_strand.specs.Strand.{annotation_of}
 use Rattle.methylation_evidence.specs.Counts.{tag_counts, summed_counts}
 use Rattle.duplex_texts.specs.Texts.{TextArrays}
 use Rattle.duplex_texts.specs.Outputs.{strand_lengths, DuplexTextsAs}
 use Rattle.duplex_texts.specs.Parts.{AsLong}
-use Rattle.duplex_texts.specs.declared.StrandLengths.{StrandLengths}
 use Rattle.duplex_texts.specs.declared.TextLengths.{TextLengths}
 use Rattle.duplex_texts.proofs.Refused.{as_long}
 use Rattle.duplex_tags.specs.Tags.{KindArrays, CountArrays, counts_of, kind_counts, duplex_counts}
 use Rattle.duplex_tags.specs.Outputs.{kind_lengths, LeavesCounts}
-use Rattle.duplex_tags.specs.Parts.{places_of, counts_refused}
+use Rattle.duplex_tags.specs.Parts.{counts_refused}
 use Rattle.duplex_tags.specs.declared.KindLengths.{KindLengths}
 use Rattle.duplex_tags.proofs.Counts.{countable}
 use Rattle.duplex_tags.proofs.Refused.{by_own, met_first, passed_first, by_texts, enough_room}
 use Rattle.rust_methylation.specs.Entries.{DuplexArrays, duplex_arrays}
-use Rattle.c_tags.specs.Tags.{AnnotationBytes, strand_of, strand_given, each_kind, each, TagsBytesAs}
+use Rattle.c_tags.specs.Tags.{strand_of, each_kind, each, TagsBytesAs}
 use Rattle.c_tags.specs.Parts.{seen, strand_seen, lengths_seen, counts_in, Fits}
 use Rattle.c_tags.specs.declared.EncodedEvidence.{EncodedEvidence}
-
--- What the code has of an annotation that is given, as far as it is looked at.
-pub given : (e : EncodedEvidence) (s : AnnotationBytes) → e.annotation ≡ annotation_of (yes s.annotated) s.pattern → e.bytes.now ≡ s.evidence → strand_seen e ≡ strand_given s
-given e s is bytes = rw (is, bytes, go (yes s.annotated))
-  where
-    go : (told : Bool) → only_if (is_annotated (annotation_of told s.pattern)) s.evidence ≡ only_if told s.evidence
-    go true = refl
-    go false = refl
-
--- A number that stands for a mode.
-pub chosen : (number : ℕ) {mode : MethylationMode} → mode_in number ≡ Ok mode → (wrong_mode number ≡ false) × (mode ≡ mode_of number)
-chosen number e = go (wrong_mode number) e
-  where
-    go : (wrong : Bool) {mode : MethylationMode} → cond wrong (Err Broken) (Ok (mode_of number)) ≡ Ok mode → (wrong ≡ false) × (mode ≡ mode_of number)
-    go true h = absurd cc
-    go false h = (refl, cc)
-
--- No number stands for nothing.
-pub none_wrong : {p q r s t : Bool} → p ≡ r → q ≡ s → (p || q) ≡ false → t ≡ false → (r || (s || t)) ≡ false
-none_wrong {p} {q} e f h g = rw (← e, ← f, g) (go p q h)
-  where
-    go : (p q : Bool) → (p || q) ≡ false → (p || (q || false)) ≡ false
-    go true q h = absurd cc
-    go false true h = absurd cc
-    go false false h = refl
 
 same_lengths : (e : EncodedEvidence) → lengths_seen e ≡ strand_lengths (strand_seen e)
 same_lengths e = rw (length_by_group 9 mark_in (seen e), length_by_group 9 (count_in 1) (seen e), length_by_group 9 (count_in 5) (seen e))
@@ -102,12 +73,12 @@ fits_own :
     (n : ℕ) (e : EncodedEvidence) (offset : ℕ) (out : List ℕ)
     → n ≤ 1024
     → (is_annotated e.annotation ≡ true → length (counts_in9 offset (seen e)) ≡ n)
-    → places_of e.annotation n ≤ length (words16 out)
+    → option_map_or (λ l. n) (strand_lengths (strand_seen e)) 0 ≤ length (words16 out)
     → {xs : List ℕ}
     → xs ≡ counts_in9 offset (seen e)
     → Fits (length xs) (length out)
 fits_own n e offset out few whole room x =
-    let c = countable e.annotation n (counts_in9 offset (seen e)) whole few (x ∙ own_counts offset e) room in
+    let c = countable e.annotation n (counts_in9 offset (seen e)) whole few (strand_seen e).evidence (x ∙ own_counts offset e) room in
     record { few = c.few; room = omega (arith, c.room, length_numbers 2 out) }
 
 module _ (mode : MethylationMode) (bases : List ℕ) (a b : EncodedEvidence) (before : DuplexArrays) where
@@ -118,7 +89,7 @@ module _ (mode : MethylationMode) (bases : List ℕ) (a b : EncodedEvidence) (be
   own = by_own mode bases (strand_seen a) (strand_seen b) before.texts counts
 
   pub same_test :
-      {of_a of_b : StrandLengths} {u c : KindLengths} {r : Result (Unit {0}) Refusal}
+      {of_a of_b : Option EvidenceLengths} {u c : KindLengths} {r : Result (Unit {0}) Refusal}
       → of_a ≡ lengths_seen a
       → of_b ≡ lengths_seen b
       → u ≡ counts_in (length before.counts.unconverted.a) (length before.counts.unconverted.b) (length before.counts.unconverted.both)

@@ -37,6 +37,10 @@ broken_in annotated pattern bytes = wrong_pattern annotated pattern || (annotate
 abbrev pub is_broken : AnnotationBytes → Bool
 is_broken s = broken_in (yes s.annotated) s.pattern (length s.evidence)
 
+-- The same for all that is given.
+abbrev pub wrong_given : AnnotationBytes → AnnotationBytes → ℕ → Bool
+wrong_given a b mode = is_broken a || (is_broken b || wrong_mode mode)
+
 -- The strand that an annotation and bytes of evidence stand for.
 abbrev pub strand_of : Option ConversionPattern → List ℕ → Strand
 strand_of annotation bytes = strand annotation (marks_of bytes) (unconverted_of bytes) (converted_of bytes)
@@ -65,4 +69,4 @@ pub record TagsBytesAs (mode : MethylationMode) (bases : List ℕ) (a b : Strand
 -- What `gedrashiw_methylation_tags` answers and leaves in its outputs: 13 before all else.
 abbrev pub TagsEntry : ℕ → List ℕ → AnnotationBytes → AnnotationBytes → DuplexArrays → DuplexArrays → DuplexTagsReply → Type 0
 TagsEntry mode bases a b =
-    RepliedAs (is_broken a || (is_broken b || wrong_mode mode)) (duplex_tags_reply (Err Broken)) duplex_tags_reply (TagsBytesAs (mode_of mode) bases (strand_given a) (strand_given b))
+    RepliedAs (wrong_given a b mode) (duplex_tags_reply (Err Broken)) duplex_tags_reply (TagsBytesAs (mode_of mode) bases (strand_given a) (strand_given b))

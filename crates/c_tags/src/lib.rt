@@ -4,25 +4,28 @@
 // duplex_texts, duplex_tags and rust_methylation.
 #![tactic(auto)]
 
-ghost use Rattle.std.specs.Prelude.{◌≡◌, ◌/◌, ◌≤◌, length, take};
+ghost use Rattle.std.specs.Prelude.{◌≡◌, ◌/◌, ◌≤◌, length};
 ghost use Rattle.lists.specs.Output.{put};
 ghost use Rattle.byte_numbers.specs.Bytes.{bytes16};
-ghost use Rattle.methylation.specs.Arrays.{evidence_arrays, evidence_in};
 ghost use Rattle.methylation_evidence.specs.Counts.{tag_counts, summed_counts};
+ghost use Rattle.duplex_texts.specs.Lent.{texts_out, SameTexts};
 ghost use Rattle.duplex_texts.specs.Texts.{text_arrays};
 ghost use Rattle.duplex_tags.specs.Tags.{count_arrays};
 ghost use Rattle.rust_methylation.specs.Entries.{duplex_arrays};
-ghost use Rattle.c_tags.specs.Tags.{annotation_bytes, broken_in, TagsBytesAs, TagsEntry};
-ghost use Rattle.c_tags.specs.Parts.{seen, strand_seen, lengths_seen, counts_in, Fits};
+ghost use Rattle.c_tags.specs.Lent.{counts_out, SameBytes};
+ghost use Rattle.c_tags.specs.Tags.{annotation_bytes, TagsBytesAs, TagsEntry};
+ghost use Rattle.c_tags.specs.Parts.{seen, strand_seen, lengths_seen, EvidenceReadAs, ReadAs, counts_in, Fits};
 
 use duplex_tags::{KindLengths, counts_refusal};
-use duplex_texts::{StrandLengths, StrandSlices, TextLengths, duplex_texts};
-use lists::front;
-use methylation::{ConversionPattern, EvidenceLengths, EvidenceSlices, MethylationMode};
-use methylation_evidence::{summed_counts, unconverted_counts};
+use duplex_texts::{StrandSlices, TextLengths, TextOutputs, duplex_texts};
+use lists::{front, only_if};
+use methylation::{
+    ConversionPattern, EvidenceLengths, EvidenceOutputs, EvidenceSlices, MethylationMode,
+};
+use methylation_evidence::{summed_counts, tag_counts};
 use molecule_evidence::{POSITION_BYTES, read_evidence};
-use molecule_strand::{annotation_of, seen_u8, wrong_pattern};
-use refusals::Refusal;
+use molecule_strand::{annotation_of, wrong_pattern};
+use refusals::{Refusal, refuse};
 use rust_methylation::DuplexTagsReply;
 
 // A strand's annotation with its evidence as bytes, nine a position. Without an annotation the bytes are not looked at.
@@ -33,55 +36,88 @@ struct EncodedEvidence<'a> {
 }
 
 impl<'a> EncodedEvidence<'a> {
+    // As C gives it: any flag but 0 says that there is an annotation. Refuses by 13 a pattern above 1, and bytes that are not whole
+    // positions.
+    fn read(annotated: u8, pattern: u8, bytes: &'a [u8]) -> Result<EncodedEvidence<'a>, Refusal>
+        ensures { EvidenceReadAs (annotation_bytes annotated pattern bytes.now) result }
+    {
+        let told = annotated != 0;
+        let broken = wrong_pattern(told, pattern) | (told & (bytes.len() % POSITION_BYTES != 0));
+        refuse(broken, Refusal::Broken)?;
+        Ok(EncodedEvidence {
+            annotation: annotation_of(told, pattern),
+            bytes,
+        })
+    }
+
     // The bytes that are looked at.
     fn seen(self) -> &'a [u8]
         ensures { result.now ≡ seen self.entry }
     {
-        seen_u8(self.annotation.is_some(), self.bytes)
+        only_if(self.annotation.is_some(), self.bytes)
     }
 
     // How many positions they are.
-    fn lengths(self) -> StrandLengths
+    fn places(self) -> usize
+        ensures { result ≡ length (seen self.entry) / 9 }
+    {
+        self.seen().len() / POSITION_BYTES
+    }
+
+    // How long its evidence is, where there is an annotation.
+    fn lengths(self) -> Option<EvidenceLengths>
         ensures { result ≡ lengths_seen self.entry }
     {
-        let places = self.seen().len() / POSITION_BYTES;
-        StrandLengths {
-            annotation: self.annotation,
-            evidence: EvidenceLengths {
-                marks: places,
-                unconverted: places,
-                converted: places,
-            },
+        self.annotation
+            .and(Some(EvidenceLengths::of(self.places())))
+    }
+}
+
+// What is given for a call: its strands and the chemistry.
+#[derive(Clone, Copy)]
+struct Given<'a> {
+    a: EncodedEvidence<'a>,
+    b: EncodedEvidence<'a>,
+    mode: MethylationMode,
+}
+
+// From the numbers that C gives. Refuses by 13.
+fn read_given<'a>(
+    a_annotated: u8,
+    a_pattern: u8,
+    a_evidence: &'a [u8],
+    b_annotated: u8,
+    b_pattern: u8,
+    b_evidence: &'a [u8],
+    mode: u8,
+) -> Result<Given<'a>, Refusal>
+    ensures { ReadAs (annotation_bytes a_annotated a_pattern a_evidence.now) (annotation_bytes b_annotated b_pattern b_evidence.now) mode result }
+{
+    let a = EncodedEvidence::read(a_annotated, a_pattern, a_evidence)?;
+    let b = EncodedEvidence::read(b_annotated, b_pattern, b_evidence)?;
+    let mode = MethylationMode::try_from(mode)?;
+    Ok(Given { a, b, mode })
+}
+
+// The outputs for one kind of counts as bytes: the first strand's, the second's, and for both summed. A function that is lent them
+// leaves each slice where it is (specs/Lent.antt).
+#[derive(Drop)]
+struct ByteKind<'a> {
+    a: &'a mut [u8],
+    b: &'a mut [u8],
+    both: &'a mut [u8],
+}
+
+impl ByteKind<'_> {
+    // How many counts they hold.
+    fn counts(&self) -> KindLengths
+        ensures { result ≡ counts_in (length self.now.a.now) (length self.now.b.now) (length self.now.both.now) }
+    {
+        KindLengths {
+            a: self.a.len() / 2,
+            b: self.b.len() / 2,
+            both: self.both.len() / 2,
         }
-    }
-}
-
-// Row 13's condition for an annotation with so many bytes of evidence.
-fn is_broken(annotated: bool, pattern: u8, evidence: usize) -> bool
-    ensures { result ≡ broken_in annotated pattern evidence }
-{
-    wrong_pattern(annotated, pattern) | (annotated & (evidence % POSITION_BYTES != 0))
-}
-
-// How many counts outputs of so many bytes hold.
-fn counts_in(a: usize, b: usize, both: usize) -> KindLengths
-    ensures { result ≡ counts_in a b both }
-{
-    KindLengths {
-        a: a / 2,
-        b: b / 2,
-        both: both / 2,
-    }
-}
-
-// The first so many positions of evidence.
-fn evidence_front(evidence: EvidenceSlices<'_>, places: usize) -> EvidenceSlices<'_>
-    ensures { evidence_in result ≡ evidence_arrays (take places evidence.entry.marks.now) (take places evidence.entry.unconverted.now) (take places evidence.entry.converted.now) }
-{
-    EvidenceSlices {
-        marks: front(evidence.marks, places),
-        unconverted: front(evidence.unconverted, places),
-        converted: front(evidence.converted, places),
     }
 }
 
@@ -92,7 +128,7 @@ fn write_held(counts: &[u32], out: &mut [u8])
 {
     // No heap: arrays of the most that is looked at.
     let mut held = [0; 1024];
-    let _ = unconverted_counts(counts, &mut held);
+    let _ = tag_counts(counts, &mut held);
     byte_numbers::write(front(&held, counts.len()), out);
 }
 
@@ -109,56 +145,52 @@ fn write_summed(positions: usize, a: &[u32], b: &[u32], out: &mut [u8])
 }
 
 // A record's tags, from its bases and the evidence of its strands. Refuses by 7, 8, 12.
-// Lent outputs stay apart: the borrow checker has no rule for a struct of them that is passed on.
 fn write_tags(
     bases: &[u8],
     a: EncodedEvidence<'_>,
     b: EncodedEvidence<'_>,
     mode: MethylationMode,
-    seq_out: &mut [u8],
-    a_mm_out: &mut [u8],
-    b_mm_out: &mut [u8],
-    mm_out: &mut [u8],
-    ml_out: &mut [u8],
-    a_unconverted_out: &mut [u8],
-    a_converted_out: &mut [u8],
-    b_unconverted_out: &mut [u8],
-    b_converted_out: &mut [u8],
-    unconverted_out: &mut [u8],
-    converted_out: &mut [u8],
+    texts: &mut TextOutputs<'_>,
+    unconverted: &mut ByteKind<'_>,
+    converted: &mut ByteKind<'_>,
 ) -> Result<TextLengths, Refusal>
-    ensures { TagsBytesAs mode bases.now (strand_seen a.entry) (strand_seen b.entry)
-        (duplex_arrays
-        (text_arrays seq_out.old a_mm_out.old b_mm_out.old mm_out.old ml_out.old)
-        (count_arrays a_unconverted_out.old a_converted_out.old b_unconverted_out.old b_converted_out.old unconverted_out.old converted_out.old))
-        (duplex_arrays
-        (text_arrays seq_out.new a_mm_out.new b_mm_out.new mm_out.new ml_out.new)
-        (count_arrays a_unconverted_out.new a_converted_out.new b_unconverted_out.new b_converted_out.new unconverted_out.new converted_out.new))
+    ensures same_references { SameTexts texts.old texts.new × SameBytes unconverted.old unconverted.new × SameBytes converted.old converted.new }
+    ensures tagged { TagsBytesAs mode bases.now (strand_seen a.entry) (strand_seen b.entry)
+        (duplex_arrays (texts_out texts.old) (counts_out unconverted.old converted.old))
+        (duplex_arrays (texts_out texts.new) (counts_out unconverted.new converted.new))
         result }
 {
     let n = bases.len();
-    let unconverted = counts_in(
-        a_unconverted_out.len(),
-        b_unconverted_out.len(),
-        unconverted_out.len(),
-    );
-    let converted = counts_in(
-        a_converted_out.len(),
-        b_converted_out.len(),
-        converted_out.len(),
-    );
-    let of_a = a.lengths();
-    let of_b = b.lengths();
-    counts_refusal(n, of_a, of_b, unconverted, converted)?;
+    counts_refusal(
+        n,
+        a.lengths(),
+        b.lengths(),
+        unconverted.counts(),
+        converted.counts(),
+    )?;
     // No heap: arrays of the most that is looked at.
     let mut a_marks = [0; 1024];
     let mut a_unconverted = [0; 1024];
     let mut a_converted = [0; 1024];
-    read_evidence(a.seen(), &mut a_marks, &mut a_unconverted, &mut a_converted);
+    read_evidence(
+        a.seen(),
+        &mut EvidenceOutputs {
+            marks: &mut a_marks,
+            unconverted: &mut a_unconverted,
+            converted: &mut a_converted,
+        },
+    );
     let mut b_marks = [0; 1024];
     let mut b_unconverted = [0; 1024];
     let mut b_converted = [0; 1024];
-    read_evidence(b.seen(), &mut b_marks, &mut b_unconverted, &mut b_converted);
+    read_evidence(
+        b.seen(),
+        &mut EvidenceOutputs {
+            marks: &mut b_marks,
+            unconverted: &mut b_unconverted,
+            converted: &mut b_converted,
+        },
+    );
     let a_read = EvidenceSlices {
         marks: &a_marks,
         unconverted: &a_unconverted,
@@ -169,8 +201,8 @@ fn write_tags(
         unconverted: &b_unconverted,
         converted: &b_converted,
     };
-    let a_evidence = evidence_front(a_read, of_a.evidence.marks);
-    let b_evidence = evidence_front(b_read, of_b.evidence.marks);
+    let a_evidence = a_read.front(a.places());
+    let b_evidence = b_read.front(b.places());
     let lengths = duplex_texts(
         bases,
         StrandSlices {
@@ -182,23 +214,24 @@ fn write_tags(
             evidence: b_evidence,
         },
         mode,
-        seq_out,
-        a_mm_out,
-        b_mm_out,
-        mm_out,
-        ml_out,
+        texts,
     )?;
-    write_held(a_evidence.unconverted, a_unconverted_out);
-    write_held(a_evidence.converted, a_converted_out);
-    write_held(b_evidence.unconverted, b_unconverted_out);
-    write_held(b_evidence.converted, b_converted_out);
+    write_held(a_evidence.unconverted, unconverted.a);
+    write_held(a_evidence.converted, converted.a);
+    write_held(b_evidence.unconverted, unconverted.b);
+    write_held(b_evidence.converted, converted.b);
     write_summed(
         n,
         a_evidence.unconverted,
         b_evidence.unconverted,
-        unconverted_out,
+        unconverted.both,
     );
-    write_summed(n, a_evidence.converted, b_evidence.converted, converted_out);
+    write_summed(
+        n,
+        a_evidence.converted,
+        b_evidence.converted,
+        converted.both,
+    );
     Ok(lengths)
 }
 
@@ -240,39 +273,43 @@ pub extern "C" fn gedrashiw_methylation_tags(
         (count_arrays a_unconverted_out.new a_converted_out.new b_unconverted_out.new b_converted_out.new unconverted_out.new converted_out.new))
         result }
 {
-    let a_told = a_annotated != 0;
-    let b_told = b_annotated != 0;
-    let a_broken = is_broken(a_told, a_pattern, a_evidence.len());
-    let b_broken = is_broken(b_told, b_pattern, b_evidence.len());
-    if a_broken | b_broken {
-        return DuplexTagsReply::from(Err::<TextLengths, Refusal>(Refusal::Broken));
-    }
-    let Ok(mode) = MethylationMode::try_from(mode) else {
-        return DuplexTagsReply::from(Err::<TextLengths, Refusal>(Refusal::Broken));
+    let mut texts = TextOutputs {
+        seq: seq_out,
+        a_mm: a_mm_out,
+        b_mm: b_mm_out,
+        mm: mm_out,
+        ml: ml_out,
     };
-    let a = EncodedEvidence {
-        annotation: annotation_of(a_told, a_pattern),
-        bytes: a_evidence,
+    let mut unconverted = ByteKind {
+        a: a_unconverted_out,
+        b: b_unconverted_out,
+        both: unconverted_out,
     };
-    let b = EncodedEvidence {
-        annotation: annotation_of(b_told, b_pattern),
-        bytes: b_evidence,
+    let mut converted = ByteKind {
+        a: a_converted_out,
+        b: b_converted_out,
+        both: converted_out,
     };
-    DuplexTagsReply::from(write_tags(
-        bases,
-        a,
-        b,
+    let given = read_given(
+        a_annotated,
+        a_pattern,
+        a_evidence,
+        b_annotated,
+        b_pattern,
+        b_evidence,
         mode,
-        seq_out,
-        a_mm_out,
-        b_mm_out,
-        mm_out,
-        ml_out,
-        a_unconverted_out,
-        a_converted_out,
-        b_unconverted_out,
-        b_converted_out,
-        unconverted_out,
-        converted_out,
-    ))
+    );
+    // No `?`: a function that answers a Result would have this whole contract once more.
+    match given {
+        Ok(given) => DuplexTagsReply::from(write_tags(
+            bases,
+            given.a,
+            given.b,
+            given.mode,
+            &mut texts,
+            &mut unconverted,
+            &mut converted,
+        )),
+        Err(refusal) => DuplexTagsReply::from(Err::<TextLengths, Refusal>(refusal)),
+    }
 }

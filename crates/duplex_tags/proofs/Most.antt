@@ -10,22 +10,22 @@ use Rattle.refusals.specs.declared.Refusal.{Refusal}
 use Rattle.refusals.specs.Refusal.{refused}
 use Rattle.methylation.specs.declared.MethylationMode.{MethylationMode}
 use Rattle.duplex_texts.specs.Texts.{Strand, TextArrays}
-use Rattle.duplex_texts.specs.Outputs.{text_lengths, RoomTexts, given_of, most_texts}
+use Rattle.duplex_texts.specs.Outputs.{text_lengths, strand_lengths, RoomTexts, given_of, most_texts}
 use Rattle.duplex_texts.proofs.Refused.{as_long}
 use Rattle.duplex_texts.proofs.Most.{texts_fit}
 use Rattle.duplex_tags.specs.Tags.{KindArrays, CountArrays}
 use Rattle.duplex_tags.specs.Outputs.{kind_lengths, RoomKind, kind_too_short, duplex_refused, most_counts}
-use Rattle.duplex_tags.specs.Parts.{places_of, needed_counts}
-use Rattle.duplex_tags.proofs.Counts.{few_places}
+use Rattle.duplex_tags.specs.Parts.{needed_counts}
+use Rattle.duplex_tags.proofs.Counts.{few_places, places_by}
 use Rattle.duplex_tags.proofs.Refused.{own_is, by_given}
 use Rattle.std.proofs.Common.{Option, Some, None}
-use Rattle.methylation.specs.declared.ConversionPattern.{ConversionPattern}
+use Rattle.methylation.specs.Arrays.{evidence_places}
 
-kind_fits : (n : ℕ) (a b : Option ConversionPattern) (out : KindArrays) → RoomKind (most_counts n) (kind_lengths out) → kind_too_short (needed_counts n a b) (kind_lengths out) ≡ false
+kind_fits : (n : ℕ) (a b : Strand) (out : KindArrays) → RoomKind (most_counts n) (kind_lengths out) → kind_too_short (needed_counts n (strand_lengths a) (strand_lengths b)) (kind_lengths out) ≡ false
 kind_fits n a b out ample =
-    let few_a = few_places a n in
-    let few_b = few_places b n in
-    rw (le-ltb (length out.a) (places_of a n) (omega (arith, ample.a)), le-ltb (length out.b) (places_of b n) (omega (arith, ample.b)), le-ltb (length out.both) n ample.both)
+    let few_a = few_places a.annotation n in
+    let few_b = few_places b.annotation n in
+    rw (places_by a.annotation n a.evidence, places_by b.annotation n b.evidence, le-ltb (length out.a) (evidence_places a.annotation n) (omega (arith, ample.a)), le-ltb (length out.b) (evidence_places b.annotation n) (omega (arith, ample.b)), le-ltb (length out.both) n ample.both)
 
 -- Only the sequence and the evidence decide.
 pub ample_outputs :
@@ -40,6 +40,6 @@ ample_outputs mode bases a b texts counts for_texts for_unconverted for_converte
     go None g =
         let few = (as_long bases a b g).0.few in
         let short = texts_fit mode bases a b few texts for_texts in
-        let room = rw (kind_fits (length bases) a.annotation b.annotation counts.unconverted for_unconverted, kind_fits (length bases) a.annotation b.annotation counts.converted for_converted) at (own_is mode bases a b texts counts g) in
+        let room = rw (kind_fits (length bases) a b counts.unconverted for_unconverted, kind_fits (length bases) a b counts.converted for_converted) at (own_is mode bases a b texts counts g) in
         rw (short, sym room)
     go (Some row) g = by_given mode bases a b texts counts g ∙ sym g

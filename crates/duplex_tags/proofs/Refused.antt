@@ -20,28 +20,29 @@ use Rattle.refusals.specs.declared.Refusal.TheVariants.{TooLong, Ragged, OutputT
 use Rattle.refusals.specs.Refusal.{refused}
 use Rattle.refusals.proofs.Condition.{neither}
 use Rattle.methylation.specs.Methylation.{is_annotated}
-use Rattle.methylation.specs.declared.ConversionPattern.{ConversionPattern}
+use Rattle.methylation.specs.declared.EvidenceLengths.{EvidenceLengths}
 use Rattle.methylation.specs.declared.MethylationMode.{MethylationMode}
 use Rattle.methylation_evidence.proofs.Counts.{summed_length}
 use Rattle.refusals.proofs.Outcome.{refused_by, passed_by}
 use Rattle.duplex_texts.specs.Texts.{Strand, TextArrays, duplex_texts}
 use Rattle.duplex_texts.specs.Outputs.{text_lengths, strand_lengths, given_faults, given_of, texts_too_short, texts_refused, DuplexTextsAs}
-use Rattle.duplex_texts.specs.declared.StrandLengths.{StrandLengths}
 use Rattle.duplex_texts.specs.declared.TextLengths.{TextLengths}
 use Rattle.duplex_texts.proofs.Refused.{is_long, is_uneven, as_long}
 use Rattle.duplex_tags.specs.Tags.{CountArrays, counts_of, kind_counts, duplex_counts}
 use Rattle.duplex_tags.specs.Outputs.{kind_lengths, RoomKind, kind_too_short, counts_too_short, duplex_refused, LeavesCounts, DuplexTaggedAs}
 use Rattle.duplex_tags.specs.Parts.{needed_counts, counts_refused}
 use Rattle.duplex_tags.specs.declared.KindLengths.{KindLengths}
-use Rattle.duplex_tags.proofs.Counts.{tag_length}
+use Rattle.duplex_tags.proofs.Counts.{tag_length, places_by}
 
 pub needed_lengths :
-    (n : ℕ) (a b : Option ConversionPattern) (xs ys : List ℕ)
-    → (is_annotated a ≡ true → length xs ≡ n)
-    → (is_annotated b ≡ true → length ys ≡ n)
-    → needed_counts n a b ≡ kind_lengths (kind_counts n a xs b ys)
+    (n : ℕ) (a b : Strand) (xs ys : List ℕ)
+    → (is_annotated a.annotation ≡ true → length xs ≡ n)
+    → (is_annotated b.annotation ≡ true → length ys ≡ n)
+    → needed_counts n (strand_lengths a) (strand_lengths b) ≡ kind_lengths (kind_counts n a.annotation xs b.annotation ys)
 unfolding kind_counts
-needed_lengths n a b xs ys for_a for_b = rw (tag_length a n xs for_a, tag_length b n ys for_b, summed_length n (counts_of a xs) (counts_of b ys))
+needed_lengths n a b xs ys for_a for_b =
+    rw
+    (places_by a.annotation n a.evidence, places_by b.annotation n b.evidence, tag_length a.annotation n xs for_a, tag_length b.annotation n ys for_b, summed_length n (counts_of a.annotation xs) (counts_of b.annotation ys))
 
 either_true : (s : Bool) → (s || true) ≡ true
 either_true true = refl
@@ -86,7 +87,7 @@ module _ (large odd s f own : Bool) (same : two large odd ≡ None → own ≡ f
   rest_left : own ≡ false → two large odd ≡ None → rows large odd s ≡ rows large odd (s || f)
   rest_left o e = rw (sym (same e) ∙ o, either_false s)
 
-pub given_first : (n : ℕ) (a b : StrandLengths) (unconverted converted : KindLengths) {row : Refusal} → refused (given_faults n a b) ≡ Some row → counts_refused n a b unconverted converted ≡ Some row
+pub given_first : (n : ℕ) (a b : Option EvidenceLengths) (unconverted converted : KindLengths) {row : Refusal} → refused (given_faults n a b) ≡ Some row → counts_refused n a b unconverted converted ≡ Some row
 given_first n a b unconverted converted e = still _ _ _ e
 
 module _ (mode : MethylationMode) (bases : List ℕ) (a b : Strand) (texts : TextArrays) (counts : CountArrays) where
@@ -104,7 +105,7 @@ module _ (mode : MethylationMode) (bases : List ℕ) (a b : Strand) (texts : Tex
 
   -- What the call's own test looks at is what is written, where the sequence and the evidence are not refused.
   abbrev needed_by : KindLengths
-  needed_by = needed_counts (length bases) a.annotation b.annotation
+  needed_by = needed_counts (length bases) (strand_lengths a) (strand_lengths b)
 
   abbrev pub own : Bool
   own = kind_too_short needed_by (kind_lengths counts.unconverted) || kind_too_short needed_by (kind_lengths counts.converted)
@@ -116,8 +117,8 @@ module _ (mode : MethylationMode) (bases : List ℕ) (a b : Strand) (texts : Tex
   own_is z =
       let (for_a, for_b) = as_long bases a b z in
       ap₂ ◌||◌
-      (ap (λ (k : KindLengths). kind_too_short k (kind_lengths counts.unconverted)) (needed_lengths (length bases) a.annotation b.annotation a.evidence.unconverted b.evidence.unconverted for_a.unconverted for_b.unconverted))
-      (ap (λ (k : KindLengths). kind_too_short k (kind_lengths counts.converted)) (needed_lengths (length bases) a.annotation b.annotation a.evidence.converted b.evidence.converted for_a.converted for_b.converted))
+      (ap (λ (k : KindLengths). kind_too_short k (kind_lengths counts.unconverted)) (needed_lengths (length bases) a b a.evidence.unconverted b.evidence.unconverted for_a.unconverted for_b.unconverted))
+      (ap (λ (k : KindLengths). kind_too_short k (kind_lengths counts.converted)) (needed_lengths (length bases) a b a.evidence.converted b.evidence.converted for_a.converted for_b.converted))
 
   kept : {row : Refusal} → LeavesCounts (Some row) (duplex_counts (length bases) a b) counts counts
   kept = record { unconverted = record { a = refl; b = refl; both = refl }; converted = record { a = refl; b = refl; both = refl } }

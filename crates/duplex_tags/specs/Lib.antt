@@ -1,3 +1,4 @@
+pub mod Lent
 pub mod Tags
 pub mod Outputs
 pub mod Parts

@@ -4,8 +4,8 @@
 --     refused_given, refused_room, all_written     what the call answers and leaves, by the test that refused it, or by none
 -- Assumes nothing.
 use mathlib.Core.Path.{◌≡◌, refl, sym, ◌∙◌}
-use mathlib.Core.Bool.{Bool, true, false, cond, ◌&&◌, ◌||◌, true≢false}
-use mathlib.Core.List.{List, ◌∷◌}
+use mathlib.Core.Bool.{Bool, true, false, cond, ◌||◌}
+use mathlib.Core.List.{List}
 use Prim.Native.Nat.{ℕ, ◌≤◌}
 use lib.Dec.{ltb}
 use lib.ListN.{length}
@@ -14,24 +14,21 @@ use Rattle.std.proofs.Common.{Option, Some, None, Ok, Err}
 use Rattle.std.proofs.lemmas.Option.{none-some}
 use Rattle.refusals.specs.declared.Refusal.{Refusal}
 use Rattle.refusals.specs.declared.Refusal.TheVariants.{TooLong, Ragged, OutputTooShort}
-use Rattle.refusals.specs.Refusal.{refused, ragged}
+use Rattle.refusals.specs.Refusal.{refused}
 use Rattle.refusals.specs.Outcome.{refused_if}
-use Rattle.refusals.proofs.Condition.{Every, not_ragged, neither}
+use Rattle.refusals.proofs.Condition.{Every, neither}
 use Rattle.methylation.specs.Methylation.{is_annotated}
 use Rattle.methylation.specs.declared.MethylationMode.{MethylationMode}
-use Rattle.methylation.specs.Arrays.{evidence_lengths, three}
+use Rattle.methylation.specs.Arrays.{evidence_lengths, evidence_uneven, three}
+use Rattle.methylation.proofs.Arrays.{as_many_as, where_annotated}
 use Rattle.duplex_texts.specs.Texts.{Strand, TextArrays, duplex_texts}
 use Rattle.duplex_texts.specs.Outputs.{text_lengths, strand_lengths, RoomTexts, long, uneven, given_of, texts_too_short, room_faults, texts_refused, LeavesTexts, DuplexTextsAs}
 use Rattle.duplex_texts.specs.Parts.{AsLong}
 use Rattle.duplex_texts.specs.declared.TextLengths.{TextLengths}
 
-only_where : (a b : Bool) → (a && b) ≡ false → a ≡ true → b ≡ false
-only_where true b e h = e
-only_where false b e h = absurd (true≢false (sym h))
-
 strand_as_long : (n : ℕ) (s : Strand) → n ≤ 1024 → uneven n (strand_lengths s) ≡ false → AsLong n s
 strand_as_long n s few e =
-    let same : is_annotated s.annotation ≡ true → Every (λ k. k ≡ n) (three (evidence_lengths s.evidence)) = λ h. not_ragged n (three (evidence_lengths s.evidence)) (only_where (is_annotated s.annotation) (ragged (n ∷ three (evidence_lengths s.evidence))) e h) in
+    let same : is_annotated s.annotation ≡ true → Every (λ k. k ≡ n) (three (evidence_lengths s.evidence)) = λ h. as_many_as n (evidence_lengths s.evidence) (where_annotated (evidence_uneven n) s.annotation s.evidence e h) in
     record {
       few = few;
       marks = λ h. (same h).0;

@@ -30,7 +30,9 @@ use Rattle.mm_ml.proofs.Group as group
 use Rattle.duplex_texts.specs.Texts.{Strand, restored_seq, against, by_pattern, strand_mm, strand_ml, grouped}
 use Rattle.duplex_texts.specs.Parts.{AsLong, TextsAs}
 use Rattle.duplex_texts.proofs.Fits.{restore_fits, tags_fit}
-use Rattle.std.proofs.Common.{None, Some, Option, Result, Ok, Err}
+use Rattle.std.proofs.Common.{None, Some, Option, Result}
+use Rattle.std.specs.Prelude.{unwrap_or}
+use Rattle.std.specs.Result.{result_unwrap_or}
 
 strand_length : (annotation : Option ConversionPattern) (marks bases : List ℕ) → length (strand_bases annotation marks bases) ≡ length bases
 strand_length None marks bases = refl
@@ -70,20 +72,18 @@ evident seq s is long =
     record { few = long.few; marks = long.marks here; unconverted = long.unconverted here; converted = long.converted here }
 
 -- How many bytes `build_mm_ml_tags` wrote.
-abbrev lengths_in : Option TagLengths → TagLengths
-lengths_in None = record { mm = 0; ml = 0 }
-lengths_in (Some lengths) = lengths
+abbrev nothing : TagLengths
+nothing = record { mm = 0; ml = 0 }
 
 abbrev pub lengths_of : Result (Option TagLengths) Refusal → TagLengths
-lengths_of (Ok tags) = lengths_in tags
-lengths_of (Err refusal) = record { mm = 0; ml = 0 }
+lengths_of told = unwrap_or (result_unwrap_or told None) nothing
 
 -- The lengths that are answered where something is called, and where nothing is.
-told_lengths : (mode : MethylationMode) (s : Annotated) → lengths_in (tag_lengths mode s) ≡ record { mm = length (mm_text mode s); ml = length (ml_array mode s) }
+told_lengths : (mode : MethylationMode) (s : Annotated) → unwrap_or (tag_lengths mode s) nothing ≡ record { mm = length (mm_text mode s); ml = length (ml_array mode s) }
 unfolding mm_text ml_array
 told_lengths mode s = go (calls mode s)
   where
-    go : (ps : List ℕ) → lengths_in (tags_if_called ps (length (if_called ps (all_text s))) (length (map (ml_byte mode s) ps))) ≡ record { mm = length (if_called ps (all_text s)); ml = length (map (ml_byte mode s) ps) }
+    go : (ps : List ℕ) → unwrap_or (tags_if_called ps (length (if_called ps (all_text s))) (length (map (ml_byte mode s) ps))) nothing ≡ record { mm = length (if_called ps (all_text s)); ml = length (map (ml_byte mode s) ps) }
     go [] = refl
     go (p ∷ ps) = refl
 

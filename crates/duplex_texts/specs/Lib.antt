@@ -1,3 +1,4 @@
+pub mod Lent
 pub mod Texts
 pub mod Outputs
 pub mod Parts

@@ -1,31 +1,32 @@
 -- The outputs that a duplex record's texts go to, and the rows that refuse a call.
-use Rattle.std.specs.Prelude.{ℕ, ◌+◌, ◌*◌, ◌≤◌, ◌≡◌, Bool, ◌&&◌, ◌||◌, Option, Result, List, [], ◌∷◌, ◌++◌, length, ltb}
+use Rattle.std.specs.Prelude.{ℕ, ◌+◌, ◌*◌, ◌≤◌, ◌≡◌, Bool, false, ◌||◌, Option, Result, List, [], ◌∷◌, ◌++◌, length, ltb}
+use Rattle.std.specs.Option.{option_map_or}
 use Rattle.refusals.specs.declared.Refusal.{Refusal}
 use Rattle.refusals.specs.declared.Refusal.TheVariants.{TooLong, Ragged, OutputTooShort}
 use Rattle.refusals.specs.Refusal.{Fault, ◌if◌, too_long, refused}
 use Rattle.refusals.specs.Outcome.{answer, after}
-use Rattle.methylation.specs.Methylation.{is_annotated}
 use Rattle.methylation.specs.declared.MethylationMode.{MethylationMode}
-use Rattle.methylation.specs.Arrays.{evidence_lengths, evidence_too_long, evidence_uneven}
+use Rattle.methylation.specs.Arrays.{annotated_lengths, evidence_too_long, evidence_uneven}
+use Rattle.methylation.specs.declared.EvidenceLengths.{EvidenceLengths}
 use Rattle.duplex_texts.specs.Texts.{Strand, TextArrays, duplex_texts}
-use Rattle.duplex_texts.specs.declared.StrandLengths.{StrandLengths}
 use Rattle.duplex_texts.specs.declared.TextLengths.{TextLengths}
 
 abbrev pub text_lengths : TextArrays → TextLengths
 text_lengths t = record { seq = length t.seq; a_mm = length t.a_mm; b_mm = length t.b_mm; mm = length t.mm; ml = length t.ml }
 
-abbrev pub strand_lengths : Strand → StrandLengths
-strand_lengths s = record { annotation = s.annotation; evidence = evidence_lengths s.evidence }
+-- Those of a strand's evidence. It counts where there is an annotation.
+abbrev pub strand_lengths : Strand → Option EvidenceLengths
+strand_lengths s = annotated_lengths s.annotation s.evidence
 
--- Row 7's condition for a strand's evidence, and row 8's beside so many bases. It counts where there is an annotation.
-abbrev pub long : StrandLengths → Bool
-long s = is_annotated s.annotation && evidence_too_long s.evidence
+-- Row 7's condition for them, and row 8's beside so many bases.
+abbrev pub long : Option EvidenceLengths → Bool
+long s = option_map_or evidence_too_long s false
 
-abbrev pub uneven : ℕ → StrandLengths → Bool
-uneven bases s = is_annotated s.annotation && evidence_uneven bases s.evidence
+abbrev pub uneven : ℕ → Option EvidenceLengths → Bool
+uneven bases s = option_map_or (evidence_uneven bases) s false
 
 -- By the lengths of the sequence and of each strand's evidence.
-abbrev pub given_faults : ℕ → StrandLengths → StrandLengths → List Fault
+abbrev pub given_faults : ℕ → Option EvidenceLengths → Option EvidenceLengths → List Fault
 given_faults bases a b =
     (TooLong if (too_long (bases ∷ []) || (long a || long b)))
     ∷ (Ragged if (uneven bases a || uneven bases b))

@@ -5,9 +5,9 @@ ghost use Rattle.std.specs.Prelude.{◌≡◌, true, ◌+◌, ◌≤◌, length}
 ghost use Rattle.lists.specs.Output.{put};
 ghost use Rattle.refusals.specs.Refusal.{refused};
 ghost use Rattle.refusals.specs.Outcome.{answer};
-ghost use Rattle.methylation.specs.Methylation.{is_annotated};
-ghost use Rattle.duplex_texts.specs.Texts.{strand_in, text_arrays, restored_seq, second_first, grouped};
-ghost use Rattle.duplex_texts.specs.Outputs.{strand_lengths, long, uneven, given_faults, texts_too_short, DuplexTextsAs};
+ghost use Rattle.duplex_texts.specs.Lent.{texts_out, SameTexts};
+ghost use Rattle.duplex_texts.specs.Texts.{strand_in, restored_seq, second_first, grouped};
+ghost use Rattle.duplex_texts.specs.Outputs.{text_lengths, strand_lengths, long, uneven, given_faults, texts_too_short, DuplexTextsAs};
 ghost use Rattle.duplex_texts.specs.Parts.{AsLong, TextsAs, needed_for};
 
 use lists::{copy, front};
@@ -26,11 +26,14 @@ pub struct StrandSlices<'a> {
     pub evidence: EvidenceSlices<'a>,
 }
 
-// How long its evidence is.
-#[derive(Clone, Copy)]
-pub struct StrandLengths {
-    pub annotation: Option<ConversionPattern>,
-    pub evidence: EvidenceLengths,
+// The outputs for the sequence and the texts. A function that is lent them leaves each slice where it is (specs/Lent.antt).
+#[derive(Drop)]
+pub struct TextOutputs<'a> {
+    pub seq: &'a mut [u8],
+    pub a_mm: &'a mut [u8],
+    pub b_mm: &'a mut [u8],
+    pub mm: &'a mut [u8],
+    pub ml: &'a mut [u8],
 }
 
 // How many places each output has, or how many go there: 0 for a text that is not there.
@@ -44,34 +47,48 @@ pub struct TextLengths {
 }
 
 impl StrandSlices<'_> {
-    pub fn lengths(self) -> StrandLengths
+    // How long its evidence is, where there is an annotation: without one it is not looked at.
+    pub fn lengths(self) -> Option<EvidenceLengths>
         ensures { result ≡ strand_lengths (strand_in self.entry) }
     {
-        StrandLengths {
-            annotation: self.annotation,
-            evidence: self.evidence.lengths(),
+        self.annotation.and(Some(self.evidence.lengths()))
+    }
+}
+
+impl TextOutputs<'_> {
+    fn lengths(&self) -> TextLengths
+        ensures { result ≡ text_lengths (texts_out self.now) }
+    {
+        TextLengths {
+            seq: self.seq.len(),
+            a_mm: self.a_mm.len(),
+            b_mm: self.b_mm.len(),
+            mm: self.mm.len(),
+            ml: self.ml.len(),
         }
     }
 }
 
 // Row 7's condition for a strand.
-fn is_long(s: StrandLengths) -> bool
+fn is_long(s: Option<EvidenceLengths>) -> bool
     ensures { result ≡ long s }
 {
-    let evidence = s.evidence;
-    s.annotation.is_some() & evidence_too_long(evidence)
+    s.is_some_and(|e| evidence_too_long(e))
 }
 
 // Row 8's condition for a strand beside so many bases.
-fn is_uneven(bases: usize, s: StrandLengths) -> bool
+fn is_uneven(bases: usize, s: Option<EvidenceLengths>) -> bool
     ensures { result ≡ uneven bases s }
 {
-    let evidence = s.evidence;
-    s.annotation.is_some() & evidence_uneven(bases, evidence)
+    s.is_some_and(|e| evidence_uneven(bases, e))
 }
 
-// Refuses a sequence and the evidence of two strands, by their lengths. The evidence of an absent annotation does not count.
-pub fn given_refusal(bases: usize, a: StrandLengths, b: StrandLengths) -> Result<(), Refusal>
+// Refuses a sequence and the evidence of two strands, by their lengths: none of a strand without an annotation.
+pub fn given_refusal(
+    bases: usize,
+    a: Option<EvidenceLengths>,
+    b: Option<EvidenceLengths>,
+) -> Result<(), Refusal>
     ensures { result ≡ answer (refused (given_faults bases a b)) tt }
 {
     let too_long = (MAX_POSITIONS < bases) | (is_long(a) | is_long(b));
@@ -115,11 +132,9 @@ fn strand_texts(
         pattern,
         evidence: s.evidence,
     };
-    match build_mm_ml_tags(strand, mode, mm, ml) {
-        Ok(Some(lengths)) => lengths,
-        Ok(None) => none,
-        Err(_) => none,
-    }
+    build_mm_ml_tags(strand, mode, mm, ml)
+        .unwrap_or(None)
+        .unwrap_or(none)
 }
 
 // How many places go to each output.
@@ -171,22 +186,15 @@ fn write_groups(second_first: bool, a: &[u8], b: &[u8], out: &mut [u8])
 // strand's annotation restores the sequence first. Then each strand's MM text, and the combined MM and ML with C-to-T groups first.
 // Of an absent annotation no array is looked at, and nothing goes to its output. A text has at most 5 bytes and 5 for each
 // position, the combined one twice that, and ML 2 for each position. Refuses by 7, 8, 12.
-// Lent outputs stay apart: the borrow checker has no rule for a struct of them that is passed on.
 pub fn duplex_texts(
     bases: &[u8],
     a: StrandSlices<'_>,
     b: StrandSlices<'_>,
     mode: MethylationMode,
-    seq_out: &mut [u8],
-    a_mm_out: &mut [u8],
-    b_mm_out: &mut [u8],
-    mm_out: &mut [u8],
-    ml_out: &mut [u8],
+    out: &mut TextOutputs<'_>,
 ) -> Result<TextLengths, Refusal>
-    ensures { DuplexTextsAs mode bases.now (strand_in a.entry) (strand_in b.entry)
-        (text_arrays seq_out.old a_mm_out.old b_mm_out.old mm_out.old ml_out.old)
-        (text_arrays seq_out.new a_mm_out.new b_mm_out.new mm_out.new ml_out.new)
-        result }
+    ensures same_references { SameTexts out.old out.new }
+    ensures texts { DuplexTextsAs mode bases.now (strand_in a.entry) (strand_in b.entry) (texts_out out.old) (texts_out out.new) result }
 {
     given_refusal(bases.len(), a.lengths(), b.lengths())?;
     // No heap: arrays of the most that is looked at.
@@ -200,23 +208,16 @@ pub fn duplex_texts(
     let mut b_ml = [0; 1024];
     let of_b = strand_texts(restored, b, mode, &mut b_mm, &mut b_ml);
     let needed = needed_for(bases.len(), of_a, of_b);
-    let out = TextLengths {
-        seq: seq_out.len(),
-        a_mm: a_mm_out.len(),
-        b_mm: b_mm_out.len(),
-        mm: mm_out.len(),
-        ml: ml_out.len(),
-    };
-    refuse(is_too_short(needed, out), Refusal::OutputTooShort)?;
+    refuse(is_too_short(needed, out.lengths()), Refusal::OutputTooShort)?;
     let second_first = is_second_first(a.annotation, b.annotation);
     let a_text = front(&a_mm, of_a.mm);
     let b_text = front(&b_mm, of_b.mm);
     let a_bytes = front(&a_ml, of_a.ml);
     let b_bytes = front(&b_ml, of_b.ml);
-    copy(restored, seq_out);
-    copy(a_text, a_mm_out);
-    copy(b_text, b_mm_out);
-    write_groups(second_first, a_text, b_text, mm_out);
-    write_groups(second_first, a_bytes, b_bytes, ml_out);
+    copy(restored, out.seq);
+    copy(a_text, out.a_mm);
+    copy(b_text, out.b_mm);
+    write_groups(second_first, a_text, b_text, out.mm);
+    write_groups(second_first, a_bytes, b_bytes, out.ml);
     Ok(needed)
 }

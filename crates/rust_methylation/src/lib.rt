@@ -3,7 +3,8 @@
 // duplex_tags.
 #![tactic(auto)]
 
-ghost use Rattle.std.specs.Prelude.{◌≡◌, ◌||◌, Err};
+ghost use Rattle.std.specs.Prelude.{◌≡◌, ◌||◌, cond, Ok, Err};
+ghost use Rattle.refusals.specs.Refusal.{number_of};
 ghost use Rattle.refusals.specs.declared.Refusal.TheVariants.{Broken};
 ghost use Rattle.methylation.specs.Choices.{annotation_of, pattern_of, mode_of, wrong_annotation, wrong_pattern, wrong_mode};
 ghost use Rattle.replies.specs.Replies.{not_counted, count_reply, RepliedAs};
@@ -12,13 +13,13 @@ ghost use Rattle.duplex_texts.specs.Texts.{strand, text_arrays};
 ghost use Rattle.duplex_tags.specs.Tags.{count_arrays};
 ghost use Rattle.rust_methylation.specs.Entries.{tags_reply, mm_ml_reply, mm_reply, duplex_tags_reply, RestoredAs, StrandBasesAs, tag_arrays, duplex_arrays, TagsAs, DuplexTagsAs};
 
-use duplex_tags::duplex_methylation_tags;
-use duplex_texts::{StrandSlices, TextLengths};
+use duplex_tags::{KindOutputs, duplex_methylation_tags};
+use duplex_texts::{StrandSlices, TextLengths, TextOutputs};
 use methylation::{ConversionPattern, EvidenceSlices, MethylationMode};
 use methylation_restore::{methylation_strand_bases, restore_unconverted_bases};
 use mm_ml::{AnnotatedBases, TagLengths, build_mm_ml_tags, build_mm_tag_no_ml};
 use refusals::Refusal;
-use replies::{Count, annotation_in};
+use replies::{Count, annotation_in, annotations_in};
 
 // Of a strand's tags: `refused` is the refusal's number; where it is 0, `tagged` is 1 where there is a tag, of such lengths, else 0.
 #[repr(C)]
@@ -42,6 +43,21 @@ pub struct DuplexTagsReply {
     pub ml: usize,
 }
 
+// The numbers are those that C sees.
+impl From<Refusal> for TagsReply {
+    ghost from_gives = { λ refusal reply. reply ≡ tags_reply (number_of refusal) 0 0 0 };
+
+    fn from(refusal: Refusal) -> TagsReply {
+        TagsReply {
+            refused: refusal.number(),
+            tagged: 0,
+            mm: 0,
+            ml: 0,
+        }
+    }
+}
+
+// The numbers are those that C sees.
 impl From<Result<Option<TagLengths>, Refusal>> for TagsReply {
     ghost from_gives = { λ tags reply. reply ≡ mm_ml_reply tags };
 
@@ -59,12 +75,7 @@ impl From<Result<Option<TagLengths>, Refusal>> for TagsReply {
                 mm: 0,
                 ml: 0,
             },
-            Err(refusal) => TagsReply {
-                refused: refusal.number(),
-                tagged: 0,
-                mm: 0,
-                ml: 0,
-            },
+            Err(refusal) => TagsReply::from(refusal),
         }
     }
 }
@@ -87,16 +98,28 @@ impl From<Result<Option<usize>, Refusal>> for TagsReply {
                 mm: 0,
                 ml: 0,
             },
-            Err(refusal) => TagsReply {
-                refused: refusal.number(),
-                tagged: 0,
-                mm: 0,
-                ml: 0,
-            },
+            Err(refusal) => TagsReply::from(refusal),
         }
     }
 }
 
+// The numbers are those that C sees.
+impl From<Refusal> for DuplexTagsReply {
+    ghost from_gives = { λ refusal reply. reply ≡ duplex_tags_reply (Err refusal) };
+
+    fn from(refusal: Refusal) -> DuplexTagsReply {
+        DuplexTagsReply {
+            refused: refusal.number(),
+            positions: 0,
+            a_mm: 0,
+            b_mm: 0,
+            mm: 0,
+            ml: 0,
+        }
+    }
+}
+
+// The numbers are those that C sees.
 impl From<Result<TextLengths, Refusal>> for DuplexTagsReply {
     ghost from_gives = { λ tags reply. reply ≡ duplex_tags_reply tags };
 
@@ -110,16 +133,38 @@ impl From<Result<TextLengths, Refusal>> for DuplexTagsReply {
                 mm: lengths.mm,
                 ml: lengths.ml,
             },
-            Err(refusal) => DuplexTagsReply {
-                refused: refusal.number(),
-                positions: 0,
-                a_mm: 0,
-                b_mm: 0,
-                mm: 0,
-                ml: 0,
-            },
+            Err(refusal) => DuplexTagsReply::from(refusal),
         }
     }
+}
+
+// What the numbers of a pattern and a mode stand for. Refuses by 13.
+fn pattern_and_mode(pattern: u8, mode: u8) -> Result<(ConversionPattern, MethylationMode), Refusal>
+    ensures { result ≡ cond (wrong_pattern pattern || wrong_mode mode) (Err Broken) (Ok (pattern_of pattern, mode_of mode)) }
+{
+    Ok((
+        ConversionPattern::try_from(pattern)?,
+        MethylationMode::try_from(mode)?,
+    ))
+}
+
+// What the numbers of two annotations and a mode stand for. Refuses by 13.
+fn annotations_and_mode(
+    a_annotation: u8,
+    b_annotation: u8,
+    mode: u8,
+) -> Result<
+    (
+        Option<ConversionPattern>,
+        Option<ConversionPattern>,
+        MethylationMode,
+    ),
+    Refusal,
+>
+    ensures { result ≡ cond ((wrong_annotation a_annotation || wrong_annotation b_annotation) || wrong_mode mode) (Err Broken) (Ok (annotation_of a_annotation, annotation_of b_annotation, mode_of mode)) }
+{
+    let (a, b) = annotations_in(a_annotation, b_annotation)?;
+    Ok((a, b, MethylationMode::try_from(mode)?))
 }
 
 // Puts the unconverted letter back where a marked base shows the converted one.
@@ -132,8 +177,10 @@ pub extern "C" fn gedrashiw_restore_unconverted_bases(
     ensures { RepliedAs (wrong_pattern pattern) (not_counted 13) count_reply (RestoredAs (pattern_of pattern) marks.now)
         consensus_bases.old consensus_bases.new result }
 {
-    let Ok(pattern) = ConversionPattern::try_from(pattern) else {
-        return Count::from(Err::<usize, Refusal>(Refusal::Broken));
+    // No `?`: a function that answers a Result would have this whole contract once more.
+    let pattern = match ConversionPattern::try_from(pattern) {
+        Ok(pattern) => pattern,
+        Err(refusal) => return Count::from(refusal),
     };
     Count::from(restore_unconverted_bases(consensus_bases, pattern, marks))
 }
@@ -149,8 +196,10 @@ pub extern "C" fn gedrashiw_methylation_strand_bases(
     ensures { RepliedAs (wrong_annotation annotation) (not_counted 13) count_reply (StrandBasesAs (annotation_of annotation) bases.now marks.now)
         out.old out.new result }
 {
-    let Ok(annotation) = annotation_in(annotation) else {
-        return Count::from(Err::<usize, Refusal>(Refusal::Broken));
+    // No `?`: a function that answers a Result would have this whole contract once more.
+    let annotation = match annotation_in(annotation) {
+        Ok(annotation) => annotation,
+        Err(refusal) => return Count::from(refusal),
     };
     Count::from(methylation_strand_bases(bases, annotation, marks, out))
 }
@@ -172,11 +221,10 @@ pub extern "C" fn gedrashiw_build_mm_ml_tags(
         (tag_arrays mm.old ml.old) (tag_arrays mm.new ml.new)
         result }
 {
-    let Ok(pattern) = ConversionPattern::try_from(pattern) else {
-        return TagsReply::from(Err::<Option<TagLengths>, Refusal>(Refusal::Broken));
-    };
-    let Ok(mode) = MethylationMode::try_from(mode) else {
-        return TagsReply::from(Err::<Option<TagLengths>, Refusal>(Refusal::Broken));
+    // No `?`: a function that answers a Result would have this whole contract once more.
+    let (pattern, mode) = match pattern_and_mode(pattern, mode) {
+        Ok(choices) => choices,
+        Err(refusal) => return TagsReply::from(refusal),
     };
     let strand = AnnotatedBases {
         bases: consensus_bases,
@@ -206,11 +254,10 @@ pub extern "C" fn gedrashiw_build_mm_tag_no_ml(
         mm.old mm.new
         result }
 {
-    let Ok(pattern) = ConversionPattern::try_from(pattern) else {
-        return TagsReply::from(Err::<Option<usize>, Refusal>(Refusal::Broken));
-    };
-    let Ok(mode) = MethylationMode::try_from(mode) else {
-        return TagsReply::from(Err::<Option<usize>, Refusal>(Refusal::Broken));
+    // No `?`: a function that answers a Result would have this whole contract once more.
+    let (pattern, mode) = match pattern_and_mode(pattern, mode) {
+        Ok(choices) => choices,
+        Err(refusal) => return TagsReply::from(refusal),
     };
     let strand = AnnotatedBases {
         bases: consensus_bases,
@@ -261,14 +308,14 @@ pub extern "C" fn gedrashiw_duplex_methylation_tags(
         (count_arrays a_unconverted_out.new a_converted_out.new b_unconverted_out.new b_converted_out.new unconverted_out.new converted_out.new))
         result }
 {
-    let Ok(a_annotation) = annotation_in(a_annotation) else {
-        return DuplexTagsReply::from(Err::<TextLengths, Refusal>(Refusal::Broken));
-    };
-    let Ok(b_annotation) = annotation_in(b_annotation) else {
-        return DuplexTagsReply::from(Err::<TextLengths, Refusal>(Refusal::Broken));
-    };
-    let Ok(mode) = MethylationMode::try_from(mode) else {
-        return DuplexTagsReply::from(Err::<TextLengths, Refusal>(Refusal::Broken));
+    // No `?`: a function that answers a Result would have this whole contract once more.
+    let (a_annotation, b_annotation, mode) = match annotations_and_mode(
+        a_annotation,
+        b_annotation,
+        mode,
+    ) {
+        Ok(choices) => choices,
+        Err(refusal) => return DuplexTagsReply::from(refusal),
     };
     let a = StrandSlices {
         annotation: a_annotation,
@@ -286,21 +333,30 @@ pub extern "C" fn gedrashiw_duplex_methylation_tags(
             converted: b_converted,
         },
     };
+    let mut texts = TextOutputs {
+        seq: seq_out,
+        a_mm: a_mm_out,
+        b_mm: b_mm_out,
+        mm: mm_out,
+        ml: ml_out,
+    };
+    let mut unconverted = KindOutputs {
+        a: a_unconverted_out,
+        b: b_unconverted_out,
+        both: unconverted_out,
+    };
+    let mut converted = KindOutputs {
+        a: a_converted_out,
+        b: b_converted_out,
+        both: converted_out,
+    };
     DuplexTagsReply::from(duplex_methylation_tags(
         bases,
         a,
         b,
         mode,
-        seq_out,
-        a_mm_out,
-        b_mm_out,
-        mm_out,
-        ml_out,
-        a_unconverted_out,
-        a_converted_out,
-        b_unconverted_out,
-        b_converted_out,
-        unconverted_out,
-        converted_out,
+        &mut texts,
+        &mut unconverted,
+        &mut converted,
     ))
 }

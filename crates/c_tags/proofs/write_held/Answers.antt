@@ -4,4 +4,4 @@ use Rattle.c_tags.proofs.write_held.Goals as goal
 
 pub returns : goal.returns
 returns c =
-    counted c.args.counts.now c.args.out.now c.requires c.unconverted_counts.ensures.out_after c.front.ensures c.write.ensures
+    counted c.args.counts.now c.args.out.now c.requires c.tag_counts.ensures.out_after c.front.ensures c.write.ensures
