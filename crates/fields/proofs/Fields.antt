@@ -1,5 +1,6 @@
 -- Laws of the fields of some bytes.
 --     fields_none, fields_cut, fields_whole     by what the bytes begin with
+--     rest_shorter     the bytes after a field are fewer
 --     read_back, written     the fields of encoded fields are those; whole fields are what their encoding says
 --     exactly                both as one statement
 -- Assumes nothing.
@@ -50,7 +51,7 @@ pub begins : (bytes : List ℕ) {f : Field} {rest : List ℕ} → front bytes �
 begins bytes e = rw e at (seen bytes)
 
 -- A field takes at least three bytes.
-rest_shorter : (bytes : List ℕ) {f : Field} {rest : List ℕ} → front bytes ≡ whole f rest → length rest < length bytes
+pub rest_shorter : (bytes : List ℕ) {f : Field} {rest : List ℕ} → front bytes ≡ whole f rest → length rest < length bytes
 rest_shorter bytes {f} {rest} e =
     let b = begins bytes e in
     rw b.bytes_are (simp length-append (omega arith))

@@ -2,6 +2,8 @@
 --     at_end, at_cut     there are none (none_at_end, none_at_cut), and nothing or a cut field is left
 --     cut_is_broken      a cut field is refused by 13
 --     at_whole           a field, and the fields from its end on
+--     begun, ended, broken   what the code's answer for some bytes says of what they begin with
+--     stands             what a field is that begins at a place
 --     along              induction along a walk
 -- Assumes nothing.
 use mathlib.Core.Path.{◌≡◌, refl, sym, ap, ◌∙◌}
@@ -15,8 +17,9 @@ use borrow.Author.Tests.{le-ltb}
 use lib.ListN.{length, drop, length-append, length-drop}
 use lib.Seq.{take-append_seam, drop-append_seam, drop-drop}
 use Rattle.lists.specs.Part.{leaves, part}
-use Rattle.fields.specs.Encoding.{Field, Front, nothing, cut, whole, front, located, Fields, fields, fields_of, whole_fields, cut_field, next_field, field_at}
-use Rattle.fields.specs.declared.FieldAt.{FieldAt}
+use Rattle.fields.specs.Encoding.{Field, field, Front, nothing, cut, whole, front, begins_with, located, Fields, fields, fields_of, whole_fields, cut_field, FieldAt, next_field, field_at}
+use Rattle.fields.specs.Slices.{field_in, begins_in}
+use Rattle.fields.specs.declared.FirstField.{FirstField}
 use Rattle.refusals.specs.declared.Refusal.{Refusal}
 use Rattle.refusals.specs.declared.Refusal.TheVariants.{Broken}
 use Rattle.fields.proofs.Fields.{Begins, begins, fields_none, fields_cut, fields_whole}
@@ -85,6 +88,51 @@ module _ (bytes : List ℕ) (at : ℕ) where
 
   pub at_whole : {f : FieldAt} → next_field bytes at ≡ Ok (Some f) → BeginsAt bytes at f
   at_whole e = rw e at told
+
+-- Where the value is of a field that begins at a place.
+abbrev pub placed : ℕ → Field → FieldAt
+placed at g = record { tag = g.tag; offset = at + 3; length = length g.value }
+
+-- A field begins at a place, and some bytes stand after it.
+pub record StandsAt (bytes : List ℕ) (at : ℕ) (g : Field) (rest : List ℕ) : Type 0 where
+  pub begins_at : BeginsAt bytes at (placed at g)
+  pub field_is : field_at bytes (placed at g) ≡ g
+  pub rest_is : drop (at + 3 + length g.value) bytes ≡ rest
+
+pub stands : (bytes : List ℕ) (at : ℕ) {g : Field} {rest : List ℕ} → front (drop at bytes) ≡ whole g rest → StandsAt bytes at g rest
+unfolding next_field
+stands bytes at {g} e =
+    let here = begins (drop at bytes) e in
+    record {
+      begins_at = at_whole bytes at (ap (located at) e);
+      field_is = ap (field g.tag) (value_is bytes at here);
+      rest_is = rest_is bytes at here;
+    }
+
+abbrev Answer : Type 0
+Answer = Result (Option (Field × List ℕ)) Refusal
+
+-- What an answer says of what some bytes begin with.
+abbrev Said : Answer → Front → Type 0
+Said (Ok None) b = b ≡ nothing
+Said (Ok (Some x)) b = b ≡ whole x.0 x.1
+Said (Err refusal) b = (b ≡ cut) × (refusal ≡ Broken)
+
+said : (b : Front) → Said (begins_with b) b
+said nothing = refl
+said cut = (refl, refl)
+said (whole f rest) = refl
+
+-- The answer of the code for some bytes.
+module _ (xs : List ℕ) {r : Result (Option FirstField) Refusal} where
+  pub begun : {f : FirstField} → r ≡ Ok (Some f) → begins_in r ≡ begins_with (front xs) → front xs ≡ whole (field_in f) f.rest.now
+  begun is told = rw (sym told ∙ ap begins_in is) at (said (front xs))
+
+  pub ended : r ≡ Ok None → begins_in r ≡ begins_with (front xs) → front xs ≡ nothing
+  ended is told = rw (sym told ∙ ap begins_in is) at (said (front xs))
+
+  pub broken : {refusal : Refusal} → r ≡ Err refusal → begins_in r ≡ begins_with (front xs) → (front xs ≡ cut) × (refusal ≡ Broken)
+  broken is told = rw (sym told ∙ ap begins_in is) at (said (front xs))
 
 -- What holds where no field is left, and at each field where it holds at the field's end, holds at every place.
 module _

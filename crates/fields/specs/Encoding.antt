@@ -2,7 +2,6 @@
 use Rattle.std.specs.Prelude.{ℕ, zero, suc, ◌+◌, ◌/◌, ◌%◌, ◌<◌, ◌≡◌, Bool, true, false, cond, Option, Some, None, Result, Ok, Err, List, [], ◌∷◌, ◌++◌, ltb, length, take, drop, get_or}
 use Rattle.lists.specs.Part.{part}
 use Rattle.byte_numbers.specs.Bytes.{word}
-use Rattle.fields.specs.declared.FieldAt.{FieldAt}
 use Rattle.refusals.specs.declared.Refusal.{Refusal}
 use Rattle.refusals.specs.declared.Refusal.TheVariants.{Broken}
 
@@ -81,6 +80,18 @@ whole_fields bytes = (fields_of bytes).whole_ones
 
 abbrev pub cut_field : List ℕ → Bool
 cut_field bytes = (fields_of bytes).cut_one
+
+-- The same, as an answer: a cut field is refused.
+abbrev pub begins_with : Front → Result (Option (Field × List ℕ)) Refusal
+begins_with nothing = Ok None
+begins_with cut = Err Broken
+begins_with (whole f rest) = Ok (Some (f, rest))
+
+-- A field of a buffer: its tag, and where its value is.
+pub record FieldAt : Type 0 where
+  pub tag : ℕ
+  pub offset : ℕ
+  pub length : ℕ
 
 -- What begins at a place of a buffer, by what the bytes from there on begin with.
 abbrev pub located : ℕ → Front → Result (Option FieldAt) Refusal

@@ -3,39 +3,38 @@
 #![tactic(auto)]
 
 ghost use Rattle.std.specs.Prelude.{◌≡◌};
-ghost use Rattle.fields.specs.Encoding.{next_field};
+ghost use Rattle.fields.specs.Encoding.{front, begins_with};
+ghost use Rattle.fields.specs.Slices.{begins_in};
 
 use refusals::Refusal;
 
-// A field of a byte buffer: its tag, and where its value is.
+// The field that some bytes begin with: its tag, its value, and the bytes after it.
 #[derive(Clone, Copy)]
-pub struct FieldAt {
+pub struct FirstField<'a> {
     pub tag: u8,
-    pub offset: usize,
-    pub length: usize,
+    pub value: &'a [u8],
+    pub rest: &'a [u8],
 }
 
-// The field that begins at a place, or none where no bytes are left. The next one begins at its offset plus its length. Refuses by 13
-// where bytes are left, and no whole field.
-#[tactic(auto, using(crate::proofs::Front::no_field, crate::proofs::Front::no_whole_header, crate::proofs::Front::no_whole_value, crate::proofs::Front::a_field, byte_numbers::proofs::Bytes::word_le))]
-pub fn next_field(bytes: &[u8], at: usize) -> Result<Option<FieldAt>, Refusal>
-    ensures { result ≡ next_field bytes.now at }
+// The field that some bytes begin with, or none where there are no bytes. Refuses by 13 where there are some, and no whole field.
+#[tactic(auto, unfolding(crate::specs::Encoding::front), using(byte_numbers::proofs::Bytes::word_le))]
+pub fn next_field(bytes: &[u8]) -> Result<Option<FirstField<'_>>, Refusal>
+    ensures { begins_in result ≡ begins_with (front bytes.now) }
 {
-    let n = bytes.len();
-    if n <= at {
-        return Ok(None);
+    match bytes {
+        [] => Ok(None),
+        [tag, low, high, after @ ..] => {
+            let length = u16::from_le_bytes([*low, *high]) as usize;
+            if after.len() < length {
+                return Err(Refusal::Broken);
+            }
+            let (value, rest) = after.split_at(length);
+            Ok(Some(FirstField {
+                tag: *tag,
+                value,
+                rest,
+            }))
+        }
+        _ => Err(Refusal::Broken),
     }
-    if n - at < 3 {
-        return Err(Refusal::Broken);
-    }
-    let length = u16::from_le_bytes([bytes[at + 1], bytes[at + 2]]) as usize;
-    let offset = at + 3;
-    if n - offset < length {
-        return Err(Refusal::Broken);
-    }
-    Ok(Some(FieldAt {
-        tag: bytes[at],
-        offset,
-        length,
-    }))
 }

@@ -14,10 +14,12 @@ use Rattle.refusals.specs.declared.Refusal.{Refusal}
 use Rattle.refusals.specs.declared.Refusal.TheVariants.{Broken, TooLong, Ragged, TooManyReads, PartOutside, OutputTooShort}
 use Rattle.refusals.specs.Refusal.{too_many}
 use Rattle.refusals.proofs.Condition.{nor_where, both_hold}
-use Rattle.methylation.specs.Arrays.{EvidenceArrays, evidence_arrays, evidence_lengths, evidence_too_short}
+use Rattle.std.specs.Option.{option_map_or}
+use Rattle.methylation.specs.Arrays.{EvidenceArrays, evidence_arrays, evidence_lengths, annotated_lengths, evidence_too_short}
+use Rattle.methylation.specs.declared.ConversionPattern.{ConversionPattern}
 use Rattle.vanilla_caller.specs.Strand.{lengths}
 use Rattle.duplex_outputs.specs.Outputs.{RecordArrays, record_of, record_lengths, record_too_short}
-use Rattle.duplex_kind.specs.Kind.{Strand, given, annotated, positions, record_length, some_depth, covered, kind_of, long, uneven}
+use Rattle.duplex_kind.specs.Kind.{Strand, given, positions, record_length, some_depth, covered, kind_of, long, uneven}
 use Rattle.duplex_kind.specs.declared.DuplexConsensus.TheVariants.{Ab, Ba, Both}
 use Rattle.duplex_record.specs.Record.{outputs_short}
 use Rattle.molecule_reads.specs.Run.{reads_of}
@@ -52,18 +54,15 @@ evidence_holds {out} room n h =
     rw
     (le-ltb (length out.marks) n (omega (arith, room.marks)), le-ltb (length out.unconverted) n (omega (arith, room.unconverted)), le-ltb (length out.converted) n (omega (arith, room.converted)))
 
+evidence_fits : (annotation : Option ConversionPattern) {out : EvidenceArrays} → AmpleEvidence out → (n : ℕ) → n ≤ 1024 → option_map_or (evidence_too_short n) (annotated_lengths annotation out) false ≡ false
+evidence_fits None room n h = refl
+evidence_fits (Some pattern) room n h = evidence_holds room n h
+
 module _ (out : RecordArrays) (room : Ample out) where
-  holds : (n : ℕ) (p q : Bool) → n ≤ 1024 → record_too_short n p q (record_lengths out) ≡ false
+  holds : (n : ℕ) (p q : Option ConversionPattern) → n ≤ 1024 → record_too_short n (record_lengths p q out) ≡ false
   holds n p q h =
       rw
-      (le-ltb (length out.bases) n (omega (arith, room.bases)), le-ltb (length out.quals) n (omega (arith, room.quals)), le-ltb (length out.errors) n (omega (arith, room.errors)), evidence_holds room.a n h, evidence_holds room.b n h)
-      (none p q)
-    where
-      none : (p q : Bool) → ((p && false) || (q && false)) ≡ false
-      none true true = refl
-      none true false = refl
-      none false true = refl
-      none false false = refl
+      (le-ltb (length out.bases) n (omega (arith, room.bases)), le-ltb (length out.quals) n (omega (arith, room.quals)), le-ltb (length out.errors) n (omega (arith, room.errors)), evidence_fits p room.a n h, evidence_fits q room.b n h)
 
   module _ (a b : Strand) where
     by_kind :
@@ -72,16 +71,16 @@ module _ (out : RecordArrays) (room : Ample out) where
         → (in_b ≡ true → positions b ≤ 1024)
         → (in_a ≡ true → in_b ≡ true → n ≤ 1024)
         → outputs_short a b out (cond in_a (cond in_b (Some (Both n)) (Some (Ab (positions a)))) (cond in_b (Some (Ba (positions b))) None)) ≡ false
-    by_kind true true n f g h = holds n (annotated a) (annotated b) (h refl refl)
-    by_kind true false n f g h = holds (positions a) (annotated a) false (f refl)
-    by_kind false true n f g h = holds (positions b) (annotated b) false (g refl)
+    by_kind true true n f g h = holds n a.annotation b.annotation (h refl refl)
+    by_kind true false n f g h = holds (positions a) a.annotation None (f refl)
+    by_kind false true n f g h = holds (positions b) b.annotation None (g refl)
     by_kind false false n f g h = refl
 
     -- A strand that counts is present, and of at most 1,024 positions where it is not long.
     few : (s : Strand) → long (given s) ≡ false → covered (record_length a b) s ≡ true → positions s ≤ 1024
     few s h in_s =
         let there : s.present ≡ true = (both_hold s.present (some_depth (take (record_length a b) s.arrays.depths)) in_s).0 in
-        (not_long (annotated s) (lengths s.arrays) (rw there at h)).0.0
+        (not_long (lengths s.annotation s.arrays) (rw there at h)).0.0
 
     none_short : (long (given a) || long (given b)) ≡ false → outputs_short a b out (kind_of a b) ≡ false
     none_short h =

@@ -86,11 +86,11 @@ narrow_of : (annotation : Option ConversionPattern) (bases quals depths errors e
     long_in s ≡ false → Narrow (looked_at s)
 unfolding only_if
 narrow_of None bases quals depths errors evidence h =
-    let all = (not_long false (numbers_in (strand_bytes true None bases quals depths errors evidence)) h).0 in
+    let all = (not_long (numbers_in (strand_bytes true None bases quals depths errors evidence)) h).0 in
     record { depths = all.1.1.0; errors = all.1.1.1.0; evidence = omega arith }
 narrow_of (Some pattern) bases quals depths errors evidence h =
-    let (all, more) = not_long true (numbers_in (strand_bytes true (Some pattern) bases quals depths errors evidence)) h in
-    record { depths = all.1.1.0; errors = all.1.1.1.0; evidence = (more refl).0 }
+    let (all, more) = not_long (numbers_in (strand_bytes true (Some pattern) bases quals depths errors evidence)) h in
+    record { depths = all.1.1.0; errors = all.1.1.1.0; evidence = more.0 }
 
 pub narrow : (s : Option EncodedStrand) → long_in (encoded_in s) ≡ false → Narrow (looked_at (encoded_in s))
 unfolding only_if

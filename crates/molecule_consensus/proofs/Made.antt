@@ -1,7 +1,7 @@
 -- The record of what was read, as that of the bytes.
 --     strand_is, plain_same, plain_is         a strand whose numbers were read
 --     by_strands                 strands that are equal
---     refused_by_row, made_of    the record that was refused, and the one that was made with its errors counted
+--     answered_of                the record that was refused, or made with its errors counted
 -- Assumes nothing.
 use mathlib.Core.Path.{◌≡◌, refl, sym, ap, subst, ◌∙◌}
 use mathlib.Core.Bool.{Bool, true, false, not, ◌&&◌}
@@ -23,6 +23,7 @@ use Rattle.duplex_record.specs.Record.{DuplexAs}
 use Rattle.duplex_record.specs.Parts.{plain_of}
 use Rattle.duplex_molecule.specs.Molecule.{ct_input}
 use Rattle.duplex_consensus.specs.Consensus.{counted_positions}
+use Rattle.duplex_consensus.proofs.Counting.{none_asked}
 use Rattle.duplex_consensus.proofs.Made.{with_errors}
 use Rattle.source_reads.specs.Reads.{counted_errors}
 use Rattle.methylation.specs.declared.ConversionPattern.{ConversionPattern}
@@ -78,10 +79,10 @@ module _
     {list : Option GivenReads} (l : Listed listed run list)
     {x y : Strand} (first : x ≡ strand_of (seen (encoded_in a))) (second : y ≡ strand_of (seen (encoded_in b)))
   where
-    pub refused_by_row : {now : RecordArrays} {row : Refusal} → DuplexAs x y (is_some list) (count_in list) (leaving_in list) uncounted before now (Err row) → BytesAs (seen (encoded_in a)) (seen (encoded_in b)) listed run before now (Err row)
+    refused_by_row : {now : RecordArrays} {row : Refusal} → DuplexAs x y (is_some list) (count_in list) (leaving_in list) uncounted before now (Err row) → BytesAs (seen (encoded_in a)) (seen (encoded_in b)) listed run before now (Err row)
     refused_by_row d = passed_on a b listed run before t early (refused_as _ _ l (rw (first, second) at d))
 
-    pub made_of :
+    made_of :
         {now : RecordArrays} {made : Option DuplexConsensus} {us : List ℕ} {p q : Strand}
         → DuplexAs x y (is_some list) (count_in list) (leaving_in list) uncounted before now (Ok made)
         → p ≡ x
@@ -89,6 +90,19 @@ module _
         → us ≡ counted_errors (reads_of run) run (ct_input p.annotation q.annotation) (counted_positions listed (Ok made)) p.arrays.bases p.arrays.quals q.arrays.bases q.arrays.quals now.errors
         → BytesAs (seen (encoded_in a)) (seen (encoded_in b)) listed run before (with_errors us now) (Ok made)
     made_of {now} d e f c = passed_on a b listed run before t early (made_as _ _ l before now (rw (first, second) at d) (rw (e ∙ first, f ∙ second) at c))
+
+    -- Made or refused: where it was refused, no errors were counted.
+    pub answered_of :
+        {now : RecordArrays} (r : Result (Option DuplexConsensus) Refusal) {us : List ℕ} {p q : Strand}
+        → DuplexAs x y (is_some list) (count_in list) (leaving_in list) uncounted before now r
+        → p ≡ x
+        → q ≡ y
+        → us ≡ counted_errors (reads_of run) run (ct_input p.annotation q.annotation) (counted_positions listed r) p.arrays.bases p.arrays.quals q.arrays.bases q.arrays.quals now.errors
+        → BytesAs (seen (encoded_in a)) (seen (encoded_in b)) listed run before (with_errors us now) r
+    answered_of (Ok made) d e f c = made_of d e f c
+    answered_of {now} (Err row) {us} {p} {q} d e f c =
+        let kept : us ≡ now.errors = c ∙ none_asked (reads_of run) run (ct_input p.annotation q.annotation) p.arrays.bases p.arrays.quals q.arrays.bases q.arrays.quals now.errors in
+        rw kept (refused_by_row d)
 
 -- The same of strands that are equal.
 pub by_strands : {x x' y y' : StrandBytes} {listed : Bool} {run : List ℕ} {before now : RecordArrays} {r : Result (Option DuplexConsensus) Refusal} → x' ≡ x → y' ≡ y → BytesAs (seen x') (seen y') listed run before now r → BytesAs (seen x) (seen y) listed run before now r

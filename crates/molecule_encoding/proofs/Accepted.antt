@@ -8,7 +8,7 @@ use mathlib.Core.Path.{◌≡◌, refl, sym, ap, ◌∙◌}
 use mathlib.Core.Bool.{Bool, true, false, cond, not, ◌&&◌}
 use mathlib.Core.List.{List}
 use Prim.Native.Nat.{ℕ, ◌+◌, ◌≤◌}
-use borrow.Author.Tests.{le-leb, lt-leb, ltb-true, ltb-false, not-true, not-false}
+use borrow.Author.Tests.{le-leb, lt-leb, ltb-true, ltb-false}
 use lib.Dec.{leb, ltb}
 use lib.ListN.{length}
 use Rattle.std.proofs.Common.{Option, Some, None, Result, Ok, Err}
@@ -18,10 +18,9 @@ use Rattle.refusals.specs.declared.Refusal.{Refusal}
 use Rattle.refusals.specs.declared.Refusal.TheVariants.{Broken}
 use Rattle.refusals.specs.Outcome.{refused_if}
 use Rattle.refusals.proofs.Condition.{both_hold}
-use Rattle.fields.specs.Encoding.{Field, whole_fields, cut_field}
-use Rattle.fields.specs.declared.FieldAt.{FieldAt}
+use Rattle.fields.specs.Encoding.{Field, FieldAt, whole_fields, cut_field}
 use Rattle.molecule_fields.specs.Widths.{implies, well_formed}
-use Rattle.molecule_encoding.specs.Format.{StrandParts, ascending, whole_strand, annotated_strand, all_or_none, announced, valid, most_bytes, accepted, value_of, place_of, strand_by, strand_of, strand_test, strand_read, bytes_after, reads_after, reads_test, reads_read, molecule, decoded, fields_fit}
+use Rattle.molecule_encoding.specs.Format.{StrandParts, ascending, whole_strand, annotated_strand, all_or_none, announced, valid, most_bytes, accepted, value_of, place_of, strand_by, strand_of, strand_test, strand_read, bytes_after, reads_after, reads_test, reads_read, molecule, checked, decoded, fields_fit}
 use Rattle.molecule_encoding.proofs.Values.{place_there, value_there}
 
 grouped : (whole ascends fit rest : Bool) → (whole && (ascends && (fit && rest))) ≡ ((whole && (ascends && fit)) && rest)
@@ -126,19 +125,18 @@ module _ (bytes : List ℕ) where
   pub small : {x : Unit {0}} → refused_if (ltb most_bytes (length bytes)) Broken ≡ Ok x → length bytes ≤ most_bytes
   small e = ltb-false most_bytes (length bytes) (unmet _ e)
 
-  pub fit : {x : Unit {0}} → refused_if (not (fields_fit 0 bytes)) Broken ≡ Ok x → fields_fit 0 bytes ≡ true
-  fit e = not-false (fields_fit 0 bytes) (unmet _ e)
+  pub fit : {x : List ℕ} → checked bytes ≡ Ok x → (fields_fit 0 bytes ≡ true) × (x ≡ bytes)
+  fit e = passed (fields_fit 0 bytes) bytes refl e
 
   pub fit_ascending : fields_fit 0 bytes ≡ true → ascending fs ≡ true
   unfolding fields_fit
   fit_ascending e = (both_hold (ascending fs) (every well_formed fs) (both_hold (not (cut_field bytes)) (ascending fs && every well_formed fs) e).1).0
 
   module _ (h : length bytes ≤ most_bytes) where
-    pub unfit : {refusal : Refusal} → refused_if (not (fields_fit 0 bytes)) Broken ≡ Err refusal → decoded bytes ≡ Err refusal
+    pub unfit : {refusal : Refusal} → checked bytes ≡ Err refusal → decoded bytes ≡ Err refusal
     unfit r =
-        let (e, is) = met _ r in
-        let no : fields_fit 0 bytes ≡ false = not-true (fields_fit 0 bytes) e in
-        rw is (refused_lem (in_parts ∙ rw (le-leb _ _ h, no)))
+        let (unfit_is, is) = failed (fields_fit 0 bytes) bytes refl r in
+        rw is (refused_lem (in_parts ∙ rw (le-leb _ _ h, unfit_is)))
 
     module _ (e : fields_fit 0 bytes ≡ true) where
       pub a_unfit : {refusal : Refusal} → strand_read 0x10 fs ≡ Err refusal → decoded bytes ≡ Err refusal

@@ -21,7 +21,7 @@ use Rattle.molecule_encoding.specs.Format.{StrandParts, follows, ascend_after, a
 use Rattle.molecule_encoding.specs.Claims.{EncodesMolecule, part_of, with_tag, StrandIs, Holds}
 use Rattle.molecule_encoding.proofs.Values.{past, place_there, value_there}
 use Rattle.molecule_encoding.proofs.Claims.{accepts}
-use Rattle.fields.specs.declared.FieldAt.{FieldAt}
+use Rattle.fields.specs.Encoding.{FieldAt}
 use Rattle.std.proofs.Common.{Option, Some, None, unwrap_or}
 use Rattle.std.specs.Prelude.{is_some}
 

@@ -2,8 +2,7 @@
 -- molecule are. A field by itself is in molecule_fields.
 use Rattle.std.specs.Prelude.{ℕ, ◌+◌, Bool, true, false, cond, not, ◌&&◌, ◌||◌, Option, Some, None, Result, Ok, Err, List, [], ◌∷◌, eqb, ltb, leb, length, drop, is_some}
 use Rattle.lists.specs.Every.{every}
-use Rattle.fields.specs.Encoding.{Field, whole_fields, cut_field}
-use Rattle.fields.specs.declared.FieldAt.{FieldAt}
+use Rattle.fields.specs.Encoding.{Field, FieldAt, whole_fields, cut_field, field_at}
 use Rattle.refusals.specs.declared.Refusal.{Refusal}
 use Rattle.refusals.specs.declared.Refusal.TheVariants.{Broken}
 use Rattle.molecule_fields.specs.Widths.{implies, well_formed}
@@ -95,6 +94,11 @@ place_from at tag (f ∷ fs) =
 abbrev pub place_of : ℕ → List Field → Option FieldAt
 place_of tag fs = place_from 0 tag fs
 
+-- What stands at the place of a field, where there is one: the field, and the bytes after it.
+abbrev pub found_at : List ℕ → Option FieldAt → Option (Field × List ℕ)
+found_at bytes None = None
+found_at bytes (Some f) = Some (field_at bytes f, drop (f.offset + f.length) bytes)
+
 -- All bytes after a field, where there is one.
 abbrev pub bytes_after : List ℕ → Option FieldAt → Option (List ℕ)
 bytes_after bytes None = None
@@ -122,6 +126,10 @@ decoded bytes = cond (accepted bytes) (Ok (molecule bytes (whole_fields bytes)))
 -- Bytes that are whole fields, in order after a tag, and each well-formed.
 unfoldable pub fields_fit : ℕ → List ℕ → Bool
 fields_fit last bytes = not (cut_field bytes) && (ascend_after last (whole_fields bytes) && every well_formed (whole_fields bytes))
+
+-- Such bytes, or the refusal.
+abbrev pub checked : List ℕ → Result (List ℕ) Refusal
+checked bytes = cond (fields_fit 0 bytes) (Ok bytes) (Err Broken)
 
 -- A strand by its fields, or the refusal: it has all of its first four fields or none, and an annotation only with them.
 abbrev pub strand_test : Option (List ℕ) → Option (List ℕ) → Option (List ℕ) → Option (List ℕ) → Option (List ℕ) → Result (Option StrandParts) Refusal

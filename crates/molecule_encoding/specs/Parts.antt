@@ -1,10 +1,22 @@
 -- The parts of a molecule as the code has them, which are slices of the caller's bytes: what they hold.
 use Rattle.std.specs.Prelude.{ℕ, Option, Some, None, Result, Ok, Err, List}
 use denote.Ref.{Bor}
+use Rattle.fields.specs.Encoding.{Field}
+use Rattle.fields.specs.Slices.{field_in}
+use Rattle.fields.specs.declared.FirstField.{FirstField}
 use Rattle.refusals.specs.declared.Refusal.{Refusal}
 use Rattle.molecule_encoding.specs.Format.{StrandParts, MoleculeParts}
 use Rattle.molecule_encoding.specs.declared.StrandFields.{StrandFields}
+use Rattle.molecule_encoding.specs.declared.ordered.OrderedFields.{OrderedFields}
 use Rattle.molecule_encoding.specs.declared.Molecule.{Molecule}
+
+abbrev pub found_in : Option FirstField → Option (Field × List ℕ)
+found_in None = None
+found_in (Some f) = Some (field_in f, f.rest.now)
+
+abbrev pub fields_in : Result OrderedFields Refusal → Result (List ℕ) Refusal
+fields_in (Ok fields) = Ok fields.bytes.now
+fields_in (Err refusal) = Err refusal
 
 abbrev pub value_in : Option (Bor (List ℕ)) → Option (List ℕ)
 value_in None = None

@@ -3,15 +3,16 @@
 // of the caller's bytes. Uses lists, refusals, fields and molecule_fields.
 #![tactic(auto)]
 
-ghost use Rattle.std.specs.Prelude.{◌≡◌, true, ◌+◌, ◌≤◌, not, length, IfSome};
+ghost use Rattle.std.specs.Prelude.{◌≡◌, ◌≤◌};
 ghost use Rattle.fields.specs.Encoding.{whole_fields};
-ghost use Rattle.refusals.specs.Outcome.{refused_if};
-ghost use Rattle.molecule_encoding.specs.Format.{follows, ascending, place_of, value_of, strand_read, reads_read, fields_fit, decoded};
-ghost use Rattle.molecule_encoding.specs.Parts.{value_in, strand_in, reads_in, molecule_in};
+ghost use Rattle.molecule_encoding.specs.Format.{follows, place_of, found_at, value_of, strand_read, reads_read, checked, decoded};
+ghost use Rattle.molecule_encoding.specs.Parts.{found_in, fields_in, value_in, strand_in, reads_in, molecule_in};
 
-use fields::{FieldAt, next_field};
-use lists::part;
+mod ordered;
+
+use fields::{FirstField, next_field};
 use molecule_fields::{READ, READ_LIST, STRAND_A, STRAND_B, THRESHOLDS, field_fits};
+use ordered::OrderedFields;
 use refusals::{Refusal, refuse};
 
 // The most bytes of an encoded molecule.
@@ -45,89 +46,85 @@ fn tag_follows(last: u8, tag: u8) -> bool
     (last < tag) | ((last == READ) & (tag == READ))
 }
 
-// The bytes are whole fields, in order and each well-formed.
-fn check_fields(bytes: &[u8]) -> Result<(), Refusal>
-    ensures { result ≡ refused_if (not (fields_fit 0 bytes.now)) Refusal.Broken }
+// The fields of bytes that are whole fields, in order and each well-formed. Refuses by 13.
+fn check_fields(bytes: &[u8]) -> Result<OrderedFields<'_>, Refusal>
+    ensures { fields_in result ≡ checked bytes.now }
 {
     let mut last = 0;
-    let mut at = 0;
-    while let Some(f) = next_field(bytes, at)? {
-        if !(tag_follows(last, f.tag) & field_fits(bytes, f)) {
+    let mut rest = bytes;
+    // No index is counted up: where a field is depends on those before it.
+    while let Some(f) = next_field(rest)? {
+        if !(tag_follows(last, f.tag) & field_fits(f)) {
             return Err(Refusal::Broken);
         }
         last = f.tag;
-        at = f.offset + f.length;
+        rest = f.rest;
     }
-    Ok(())
+    Ok(OrderedFields { bytes })
 }
 
-// The field with a tag. Tags ascend, so that none is looked for past it.
-fn find(bytes: &[u8], tag: u8) -> Option<FieldAt>
-    requires { ascending (whole_fields bytes.now) ≡ true }
-    ensures place { result ≡ place_of tag (whole_fields bytes.now) }
-    ensures within { IfSome result (λ f. f.offset + f.length ≤ length bytes.now) }
-{
-    let mut at = 0;
-    while let Ok(Some(f)) = next_field(bytes, at) {
-        if f.tag == tag {
-            return Some(f);
+impl<'a> OrderedFields<'a> {
+    // The field with a tag. Tags ascend, so that none is looked for past it.
+    fn find(self, tag: u8) -> Option<FirstField<'a>>
+        ensures { found_in result ≡ found_at self.entry.bytes.now (place_of tag (whole_fields self.entry.bytes.now)) }
+    {
+        let mut rest = self.bytes;
+        // No index is counted up: where a field is depends on those before it.
+        while let Ok(Some(f)) = next_field(rest) {
+            if f.tag == tag {
+                return Some(f);
+            }
+            if tag < f.tag {
+                return None;
+            }
+            rest = f.rest;
         }
-        if tag < f.tag {
-            return None;
+        None
+    }
+
+    // The value of the field with a tag.
+    fn value(self, tag: u8) -> Option<&'a [u8]>
+        ensures { value_in result ≡ value_of tag (whole_fields self.entry.bytes.now) }
+    {
+        let f = self.find(tag)?;
+        Some(f.value)
+    }
+
+    // A strand has all of its first four fields or none, and an annotation only with them.
+    fn strand(self, first: u8) -> Result<Option<StrandFields<'a>>, Refusal>
+        requires { first ≤ 0x20 }
+        ensures { strand_in result ≡ strand_read first (whole_fields self.entry.bytes.now) }
+    {
+        let bases = self.value(first);
+        let quals = self.value(first + 1);
+        let depths = self.value(first + 2);
+        let errors = self.value(first + 3);
+        let annotation = self.value(first + 4);
+        match (bases, quals, depths, errors, annotation) {
+            (Some(bases), Some(quals), Some(depths), Some(errors), annotation) => {
+                Ok(Some(StrandFields {
+                    bases,
+                    quals,
+                    depths,
+                    errors,
+                    annotation,
+                }))
+            }
+            (None, None, None, None, None) => Ok(None),
+            _ => Err(Refusal::Broken),
         }
-        at = f.offset + f.length;
     }
-    None
-}
 
-// The value of the field with a tag.
-#[tactic(auto, using(crate::proofs::Values::value_placed))]
-fn value(bytes: &[u8], tag: u8) -> Option<&[u8]>
-    requires { ascending (whole_fields bytes.now) ≡ true }
-    ensures { value_in result ≡ value_of tag (whole_fields bytes.now) }
-{
-    match find(bytes, tag) {
-        Some(f) => Some(part(bytes, f.offset, f.length)),
-        None => None,
-    }
-}
-
-// A strand has all of its first four fields or none, and an annotation only with them.
-fn strand_fields(bytes: &[u8], first: u8) -> Result<Option<StrandFields<'_>>, Refusal>
-    requires first_bound { first ≤ 0x20 }
-    requires bytes_value { ascending (whole_fields bytes.now) ≡ true }
-    ensures { strand_in result ≡ strand_read first (whole_fields bytes.now) }
-{
-    let bases = value(bytes, first);
-    let quals = value(bytes, first + 1);
-    let depths = value(bytes, first + 2);
-    let errors = value(bytes, first + 3);
-    let annotation = value(bytes, first + 4);
-    match (bases, quals, depths, errors, annotation) {
-        (Some(bases), Some(quals), Some(depths), Some(errors), annotation) => {
-            Ok(Some(StrandFields {
-                bases,
-                quals,
-                depths,
-                errors,
-                annotation,
-            }))
-        }
-        (None, None, None, None, None) => Ok(None),
-        _ => Err(Refusal::Broken),
-    }
-}
-
-// All that stands after the list's marker. Reads stand only there.
-fn reads_after_marker(bytes: &[u8]) -> Result<Option<&[u8]>, Refusal>
-    requires { ascending (whole_fields bytes.now) ≡ true }
-    ensures { reads_in result ≡ reads_read bytes.now }
-{
-    match find(bytes, READ_LIST) {
-        Some(marker) => Ok(Some(&bytes[marker.offset + marker.length..])),
-        None => {
-            refuse(find(bytes, READ).is_some(), Refusal::Broken)?;
-            Ok(None)
+    // All that stands after the list's marker. Reads stand only there.
+    fn reads(self) -> Result<Option<&'a [u8]>, Refusal>
+        ensures { reads_in result ≡ reads_read self.entry.bytes.now }
+    {
+        match self.find(READ_LIST) {
+            Some(marker) => Ok(Some(marker.rest)),
+            None => {
+                refuse(self.find(READ).is_some(), Refusal::Broken)?;
+                Ok(None)
+            }
         }
     }
 }
@@ -137,11 +134,11 @@ pub fn read_molecule(bytes: &[u8]) -> Result<Molecule<'_>, Refusal>
     ensures { molecule_in result ≡ decoded bytes.now }
 {
     refuse(MAX_BYTES < bytes.len(), Refusal::Broken)?;
-    check_fields(bytes)?;
-    let thresholds = value(bytes, THRESHOLDS);
-    let a = strand_fields(bytes, STRAND_A)?;
-    let b = strand_fields(bytes, STRAND_B)?;
-    let reads = reads_after_marker(bytes)?;
+    let fields = check_fields(bytes)?;
+    let thresholds = fields.value(THRESHOLDS);
+    let a = fields.strand(STRAND_A)?;
+    let b = fields.strand(STRAND_B)?;
+    let reads = fields.reads()?;
     Ok(Molecule {
         thresholds,
         a,

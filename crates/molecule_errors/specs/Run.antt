@@ -4,7 +4,8 @@ use denote.Ref.{Bor}
 use Rattle.refusals.specs.declared.Refusal.{Refusal}
 use Rattle.refusals.specs.declared.Refusal.TheVariants.{Broken}
 use Rattle.molecule_fields.specs.Widths.{is_run}
-use Rattle.molecule_reads.specs.Run.{reads_of}
+use Rattle.molecule_reads.specs.Run.{reads_of, counted}
+use Rattle.molecule_reads.specs.declared.ReadCount.{ReadCount}
 use Rattle.duplex_molecule.specs.Molecule.{ct_input}
 use Rattle.duplex_kind.specs.Kind.{Strand}
 use Rattle.duplex_kind.specs.declared.GivenReads.{GivenReads}
@@ -14,6 +15,10 @@ use Rattle.duplex_consensus.specs.Consensus.{list_errors}
 abbrev pub run_in : Option (Bor (List ℕ)) → List ℕ
 run_in None = []
 run_in (Some run) = run.now
+
+-- How many reads are listed. Without a list nothing is looked at.
+abbrev pub count_listed : Bool → List ℕ → Option ReadCount
+count_listed there run = cond there (Some (counted run)) None
 
 -- The list of reads that a run is, of which no part leaves it; a broken one is refused. Without a list nothing is looked at.
 abbrev pub listed : Bool → List ℕ → Result (Option GivenReads) Refusal

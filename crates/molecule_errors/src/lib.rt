@@ -2,62 +2,63 @@
 // listed, and their errors. Uses refusals, methylation, vanilla_caller, duplex_molecule, duplex_kind, source_reads and molecule_reads.
 #![tactic(auto)]
 
-ghost use Rattle.std.specs.Prelude.{◌≡◌, is_some, Ok};
+ghost use Rattle.std.specs.Prelude.{◌≡◌, is_some};
 ghost use Rattle.duplex_kind.specs.Kind.{given_of};
 ghost use Rattle.duplex_molecule.specs.Molecule.{ct_input};
 ghost use Rattle.duplex_consensus.specs.Consensus.{counted_positions};
 ghost use Rattle.source_reads.specs.Reads.{counted_errors};
 ghost use Rattle.molecule_reads.specs.Run.{reads_of};
-ghost use Rattle.molecule_errors.specs.Run.{run_in, listed};
+ghost use Rattle.molecule_errors.specs.Run.{run_in, count_listed, listed};
 
 use duplex_kind::{DuplexConsensus, GivenReads};
 use duplex_molecule::ct_input;
-use methylation::ConversionPattern;
-use molecule_reads::{count_reads, count_run_errors};
+use molecule_reads::{ReadCount, count_reads, count_run_errors};
 use refusals::Refusal;
-use source_reads::StrandBases;
+use source_reads::{CombinedBases, StrandBases};
 use vanilla_caller::VanillaConsensusRead;
 
-// The list of reads that a run is, of which no part leaves it. Refuses by 13 where it is broken.
-#[tactic(auto, unfolding(molecule_reads::specs::Run::counted))]
-pub fn count_listed(run: Option<&[u8]>) -> Result<Option<GivenReads>, Refusal>
-    ensures { result ≡ listed (is_some run.entry) (run_in run.entry) }
+// How many reads are listed. Without a list no run is looked at.
+pub fn count_listed(run: Option<&[u8]>) -> Option<ReadCount>
+    ensures { result ≡ count_listed (is_some run.entry) (run_in run.entry) }
 {
-    match run {
-        Some(run) => Ok(Some(GivenReads {
-            count: count_reads(run)?,
-            leaving: false,
-        })),
-        None => Ok(None),
-    }
+    run.map(count_reads)
 }
 
-fn annotation_in(s: Option<VanillaConsensusRead>) -> Option<ConversionPattern>
-    ensures { result ≡ (given_of s.entry).annotation }
+// The list of reads that a run is, of which no part leaves it. Refuses by 13 where it is broken.
+pub fn read_list(run: Option<&[u8]>) -> Result<Option<GivenReads>, Refusal>
+    ensures { result ≡ listed (is_some run.entry) (run_in run.entry) }
 {
-    s.and_then(|s| s.annotation)
+    let Some(reads) = count_listed(run) else {
+        return Ok(None);
+    };
+    reads.whole?;
+    Ok(Some(GivenReads {
+        count: reads.count,
+        leaving: false,
+    }))
 }
 
 fn bases_in<'a>(s: Option<VanillaConsensusRead<'a>>) -> StrandBases<'a>
     ensures bases { result.bases.now ≡ (given_of s.entry).arrays.bases }
     ensures quals { result.quals.now ≡ (given_of s.entry).arrays.quals }
 {
-    match s {
-        Some(s) => StrandBases {
+    let none = StrandBases {
+        bases: &[],
+        quals: &[],
+    };
+    s.map_or(
+        none,
+        |s| StrandBases {
             bases: s.bases,
             quals: s.quals,
         },
-        None => StrandBases {
-            bases: &[],
-            quals: &[],
-        },
-    }
+    )
 }
 
 // Counts the errors of a record that was made: all positions of a record of two strands with a list. No other run is walked.
 #[tactic(auto, using(duplex_consensus::proofs::Counting::none_asked))]
 pub fn count_errors(
-    made: Option<DuplexConsensus>,
+    made: Result<Option<DuplexConsensus>, Refusal>,
     run: Option<&[u8]>,
     a: Option<VanillaConsensusRead>,
     b: Option<VanillaConsensusRead>,
@@ -65,12 +66,18 @@ pub fn count_errors(
 )
     ensures { errors.new ≡ counted_errors (reads_of (run_in run.entry)) (run_in run.entry)
         (ct_input (given_of a.entry).annotation (given_of b.entry).annotation)
-        (counted_positions (is_some run.entry) (Ok made))
+        (counted_positions (is_some run.entry) made)
         (given_of a.entry).arrays.bases (given_of a.entry).arrays.quals
         (given_of b.entry).arrays.bases (given_of b.entry).arrays.quals errors.old }
 {
-    if let (Some(DuplexConsensus::Both(n)), Some(run)) = (made, run) {
-        let ct = ct_input(annotation_in(a), annotation_in(b));
-        count_run_errors(run, ct, n, bases_in(a), bases_in(b), errors);
+    if let (Ok(Some(DuplexConsensus::Both(n))), Some(run)) = (made, run) {
+        let ct = ct_input(a.and_then(|s| s.annotation), b.and_then(|s| s.annotation));
+        let s = CombinedBases {
+            ct,
+            positions: n,
+            a: bases_in(a),
+            b: bases_in(b),
+        };
+        count_run_errors(run, s, errors);
     }
 }

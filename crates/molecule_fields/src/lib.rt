@@ -4,13 +4,16 @@
 
 ghost use Rattle.std.specs.Prelude.{◌≡◌};
 ghost use Rattle.lists.specs.Every.{every, among};
-ghost use Rattle.fields.specs.Encoding.{field, field_at};
+ghost use Rattle.fields.specs.Encoding.{field};
+ghost use Rattle.fields.specs.Slices.{field_in};
 ghost use Rattle.molecule_fields.specs.Widths.{annotation_tags, known_tag, read_field, length_fits, is_bit, marks, bits_fit, well_formed, flags_of};
 
-use fields::FieldAt;
-use lists::{get_or, part};
+use byte_numbers::LittleEndian;
+use fields::FirstField;
+use lists::get_or;
 
 // The tags of the format. A strand has five, one after another: bases, qualities, depths, errors, annotation.
+// Numbers and no enum: fields stand in the order of their tags, a strand's are counted from its first, and all others are refused.
 pub const THRESHOLDS: u8 = 0x01;
 
 pub const STRAND_A: u8 = 0x10;
@@ -72,6 +75,8 @@ fn length_fits(tag: u8, n: usize) -> bool
 fn marks_fit(value: &[u8]) -> bool
     ensures { result ≡ every is_bit (marks value.now) }
 {
+    // By place and not by groups of nine after the pattern: of a value that does not fit its width the last mark may stand in a
+    // shorter group.
     for i in 0..value.len() / 9 {
         if 1 < value[9 * i + 1] {
             return false;
@@ -87,21 +92,18 @@ fn bits_fit(tag: u8, value: &[u8]) -> bool
     !is_annotation(tag) || (get_or(value, 0, 0) <= 1 && marks_fit(value))
 }
 
-// Whether a field of the bytes has a tag of the format and a value that fits it.
+// Whether a field has a tag of the format and a value that fits it.
 #[tactic(auto, unfolding(crate::specs::Widths::well_formed))]
-pub fn field_fits(bytes: &[u8], f: FieldAt) -> bool
-    ensures { result ≡ well_formed (field_at bytes.now f) }
+pub fn field_fits(f: FirstField) -> bool
+    ensures { result ≡ well_formed (field_in f.entry) }
 {
-    let tag = f.tag;
-    let value = part(bytes, f.offset, f.length);
-    known_tag(tag) && length_fits(tag, value.len()) && bits_fit(tag, value)
+    known_tag(f.tag) && length_fits(f.tag, f.value.len()) && bits_fit(f.tag, f.value)
 }
 
-// The flags of a read that is a field of the bytes.
-#[tactic(auto, unfolding(crate::specs::Widths::flags_of), using(byte_numbers::proofs::Bytes::word_le))]
-pub fn read_flags(bytes: &[u8], f: FieldAt) -> u16
-    ensures { result ≡ flags_of (field_at bytes.now f) }
+// The flags of a field that is a read.
+#[tactic(auto, unfolding(crate::specs::Widths::flags_of), using(byte_numbers::proofs::Bytes::two_le, byte_numbers::proofs::Bytes::word_le))]
+pub fn read_flags(f: FirstField) -> u16
+    ensures { result ≡ flags_of (field_in f.entry) }
 {
-    let value = part(bytes, f.offset, f.length);
-    u16::from_le_bytes([get_or(value, 0, 0), get_or(value, 1, 0)])
+    u16::from_bytes(f.value)
 }

@@ -17,7 +17,7 @@ use Rattle.lists.specs.Part.{leaves}
 use Rattle.lists.proofs.Parts.{part_after}
 use Rattle.refusals.proofs.Condition.{both_hold}
 use Rattle.fields.specs.Encoding.{Field, encoded, Fields, fields, fields_of, whole_fields, cut_field, field_at}
-use Rattle.fields.specs.declared.FieldAt.{FieldAt}
+use Rattle.fields.specs.Encoding.{FieldAt}
 use Rattle.fields.proofs.Fields.{read_back, written}
 use Rattle.fields.proofs.Walk.{BeginsAt, along}
 use Rattle.molecule_fields.specs.Widths.{is_read, flags_of, bases_of, is_run}

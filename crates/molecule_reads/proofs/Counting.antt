@@ -2,7 +2,7 @@
 --     begin, one_more, done, done_broken     the facts that the loop asks for
 -- Assumes nothing.
 use mathlib.Core.Path.{◌≡◌, refl, sym, ap, ◌∙◌}
-use mathlib.Core.Bool.{true, false}
+use mathlib.Core.Bool.{Bool, true, false}
 use mathlib.Core.List.{List, []}
 use Prim.Native.Nat.{ℕ, suc, ◌+◌, ◌≤◌}
 use native.Mathlib.Omega.{arith}
@@ -38,13 +38,14 @@ module _ {run : List ℕ} where
           whole = sym r.left.whole_is ∙ k.whole;
         }
 
-    pub done : Left run at [] true → counted run ≡ Ok count
-    unfolding counted
-    done e =
+    -- No read is left, as the run is whole or broken there.
+    abbrev count_is : {whole : Bool} → Left run at [] whole → length (reads_of run) ≡ count
+    count_is e =
         let none_left : length (reads_from at (whole_fields (drop at run))) ≡ 0 = ap length e.reads_are in
-        let all : length (reads_of run) ≡ count = omega (arith, k.left) in
-        rw (sym k.whole ∙ e.whole_is, all)
+        omega (arith, k.left)
 
-    pub done_broken : Left run at [] false → counted run ≡ Err Broken
-    unfolding counted
-    done_broken e = rw (sym k.whole ∙ e.whole_is)
+    pub done : Left run at [] true → counted run ≡ record { count = count; whole = Ok tt }
+    done e = rw (sym k.whole ∙ e.whole_is, count_is e)
+
+    pub done_broken : Left run at [] false → counted run ≡ record { count = count; whole = Err Broken }
+    done_broken e = rw (sym k.whole ∙ e.whole_is, count_is e)

@@ -14,7 +14,7 @@ use native.Mathlib.Omega.{arith}
 use lib.ListN.{length, drop}
 use Rattle.lists.specs.Every.{every}
 use Rattle.fields.specs.Encoding.{Field, Fields, fields, fields_of, whole_fields, cut_field, next_field, field_at}
-use Rattle.fields.specs.declared.FieldAt.{FieldAt}
+use Rattle.fields.specs.Encoding.{FieldAt}
 use Rattle.refusals.specs.declared.Refusal.{Refusal}
 use Rattle.refusals.specs.declared.Refusal.TheVariants.{Broken}
 use Rattle.fields.proofs.Walk.{BeginsAt, at_end, at_cut, cut_is_broken, at_whole}

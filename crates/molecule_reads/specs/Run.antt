@@ -1,11 +1,13 @@
 -- The reads of a run of encoded reads, document 01: the tray and the viewer's read list. What a read and a run are is in molecule_fields.
-use Rattle.std.specs.Prelude.{ℕ, ◌+◌, ◌-◌, cond, Option, Some, None, Result, Ok, Err, List, [], ◌∷◌, length}
+use Rattle.std.specs.Prelude.{ℕ, ◌+◌, ◌-◌, cond, not, Option, Some, None, Result, Ok, Err, List, [], ◌∷◌, length}
 use Rattle.refusals.specs.declared.Refusal.{Refusal}
 use Rattle.refusals.specs.declared.Refusal.TheVariants.{Broken}
 use Rattle.fields.specs.Encoding.{Field, whole_fields, next_field, field_at}
-use Rattle.fields.specs.declared.FieldAt.{FieldAt}
+use Rattle.fields.specs.Encoding.{FieldAt}
 use Rattle.molecule_fields.specs.Widths.{is_read, flags_of, is_run}
+use Rattle.refusals.specs.Outcome.{refused_if}
 use Rattle.source_reads.specs.declared.SourceRead.{SourceRead}
+use Rattle.molecule_reads.specs.declared.ReadCount.{ReadCount}
 
 -- A field as a read, whose value is at a place of the run: its bases follow its flags.
 abbrev pub read_of : ℕ → Field → SourceRead
@@ -28,6 +30,6 @@ read_at run (Err refusal) = Err refusal
 unfoldable pub next_read : List ℕ → ℕ → Result (Option SourceRead) Refusal
 next_read run at = read_at run (next_field run at)
 
--- How many reads a run has; a broken one is refused.
-unfoldable pub counted : List ℕ → Result ℕ Refusal
-counted run = cond (is_run run) (Ok (length (reads_of run))) (Err Broken)
+-- How many reads a run has, up to its end or to where it is broken, which is refused.
+abbrev pub counted : List ℕ → ReadCount
+counted run = record { count = length (reads_of run); whole = refused_if (not (is_run run)) Broken }

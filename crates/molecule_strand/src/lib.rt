@@ -2,17 +2,17 @@
 // and its numbers. Uses lists, refusals, methylation, vanilla_caller, byte_numbers and molecule_evidence.
 #![tactic(auto)]
 
-ghost use Rattle.std.specs.Prelude.{◌≡◌};
-ghost use Rattle.lists.specs.Part.{only_if};
+ghost use Rattle.std.specs.Prelude.{◌≡◌, Some};
 ghost use Rattle.refusals.specs.Refusal.{refused};
 ghost use Rattle.refusals.specs.Outcome.{answer};
 ghost use Rattle.methylation.specs.Arrays.{evidence_in};
+ghost use Rattle.methylation.specs.Outputs.{SameEvidence};
 ghost use Rattle.duplex_kind.specs.Kind.{given_of};
-ghost use Rattle.molecule_strand.specs.Rows.{misfit_in, long_in, early_faults};
+ghost use Rattle.molecule_strand.specs.Rows.{misfit_in, long_in, numbers_in, early_faults};
 ghost use Rattle.molecule_strand.specs.Strand.{annotation_of, wrong_pattern, encoded_in, evidence_seen, numbers, numbers_strand, NumbersRead, StrandRead};
 
-use lists::front;
-use methylation::{ConversionPattern, EvidenceLengths, EvidenceSlices};
+use lists::{front, only_if};
+use methylation::{ConversionPattern, EvidenceLengths, EvidenceOutputs, EvidenceSlices};
 use molecule_evidence::{POSITION_BYTES, read_evidence};
 use refusals::{Refusal, refuse};
 use vanilla_caller::{Lengths, VanillaConsensusRead, strand_too_long};
@@ -26,6 +26,22 @@ pub struct EncodedStrand<'a> {
     pub depths: &'a [u8],
     pub errors: &'a [u8],
     pub evidence: &'a [u8],
+}
+
+impl EncodedStrand<'_> {
+    // How many positions the bytes of each array are, those of its evidence where there is an annotation.
+    pub fn lengths(self) -> Lengths
+        ensures { result ≡ numbers_in (encoded_in (Some self.entry)) }
+    {
+        let places = self.evidence.len() / POSITION_BYTES;
+        Lengths {
+            bases: self.bases.len(),
+            quals: self.quals.len(),
+            depths: self.depths.len() / 2,
+            errors: self.errors.len() / 2,
+            evidence: self.annotation.and(Some(EvidenceLengths::of(places))),
+        }
+    }
 }
 
 // A strand's annotation, where it has one, by the number of its pattern: 0 is C to T, any other G to A.
@@ -63,21 +79,7 @@ fn is_misfit(s: Option<EncodedStrand>) -> bool
 fn is_long(s: Option<EncodedStrand>) -> bool
     ensures { result ≡ long_in (encoded_in s.entry) }
 {
-    s.is_some_and(|s| {
-        let places = s.evidence.len() / POSITION_BYTES;
-        let positions = Lengths {
-            bases: s.bases.len(),
-            quals: s.quals.len(),
-            depths: s.depths.len() / 2,
-            errors: s.errors.len() / 2,
-            evidence: EvidenceLengths {
-                marks: places,
-                unconverted: places,
-                converted: places,
-            },
-        };
-        strand_too_long(s.annotation.is_some(), positions)
-    })
+    s.is_some_and(|s| strand_too_long(s.lengths()))
 }
 
 // The rows that are tested of two strands given as bytes, either of which may be absent, before numbers are read. Refuses by 13, 7.
@@ -86,14 +88,6 @@ pub fn early_refusal(a: Option<EncodedStrand>, b: Option<EncodedStrand>) -> Resu
 {
     refuse(is_misfit(a) | is_misfit(b), Refusal::Broken)?;
     refuse(is_long(a) | is_long(b), Refusal::TooLong)
-}
-
-// Bytes that are looked at, or none.
-#[tactic(auto, unfolding(lists::specs::Part::only_if))]
-pub fn seen_u8(looked_at: bool, xs: &[u8]) -> &[u8]
-    ensures { result.now ≡ only_if looked_at xs.now }
-{
-    if looked_at { xs } else { &[] }
 }
 
 // Reads as many of a strand's depths and errors as there is room for.
@@ -107,28 +101,27 @@ pub fn read_numbers(s: Option<EncodedStrand>, depths_out: &mut [u16], errors_out
 }
 
 // The same of its depths, errors and evidence. Evidence is not looked at without an annotation.
-// Lent outputs stay apart: the borrow checker has no rule for a struct of them that is passed on.
 pub fn read_strand(
     s: Option<EncodedStrand>,
     depths_out: &mut [u16],
     errors_out: &mut [u16],
-    marks_out: &mut [u8],
-    unconverted_out: &mut [u32],
-    converted_out: &mut [u32],
+    evidence: &mut EvidenceOutputs<'_>,
 )
-    ensures { StrandRead (encoded_in s.entry)
-        (numbers depths_out.old errors_out.old marks_out.old unconverted_out.old converted_out.old)
-        (numbers depths_out.new errors_out.new marks_out.new unconverted_out.new converted_out.new) }
+    ensures same_references { SameEvidence evidence.old evidence.new }
+    ensures read { StrandRead (encoded_in s.entry)
+        (numbers depths_out.old errors_out.old evidence.old.marks.now evidence.old.unconverted.now evidence.old.converted.now)
+        (numbers depths_out.new errors_out.new evidence.new.marks.now evidence.new.unconverted.now evidence.new.converted.now) }
 {
     if let Some(s) = s {
-        let evidence = seen_u8(s.annotation.is_some(), s.evidence);
         byte_numbers::read(s.depths, depths_out);
         byte_numbers::read(s.errors, errors_out);
-        read_evidence(evidence, marks_out, unconverted_out, converted_out);
+        read_evidence(only_if(s.annotation.is_some(), s.evidence), evidence);
     }
 }
 
-// The strand whose numbers were read to the front of these arrays.
+// The strand whose numbers were read to the front of these arrays: each slice is as long as what was read.
+// No `map`: in a closure the strand's bytes and the arrays have a lifetime each, and the borrow checker has no rule for a struct that holds
+// both at one.
 pub fn strand_of_numbers<'a>(
     s: Option<EncodedStrand<'a>>,
     depths: &'a [u16],
@@ -137,22 +130,16 @@ pub fn strand_of_numbers<'a>(
 ) -> Option<VanillaConsensusRead<'a>>
     ensures { given_of result ≡ numbers_strand (encoded_in s.entry) depths.now errors.now (evidence_in evidence.entry) }
 {
-    match s {
-        Some(s) => {
-            let places = seen_u8(s.annotation.is_some(), s.evidence).len() / POSITION_BYTES;
-            Some(VanillaConsensusRead {
-                bases: s.bases,
-                quals: s.quals,
-                depths: front(depths, s.depths.len() / 2),
-                errors: front(errors, s.errors.len() / 2),
-                annotation: s.annotation,
-                evidence: EvidenceSlices {
-                    marks: front(evidence.marks, places),
-                    unconverted: front(evidence.unconverted, places),
-                    converted: front(evidence.converted, places),
-                },
-            })
-        }
-        None => None,
-    }
+    let Some(s) = s else {
+        return None;
+    };
+    let places = only_if(s.annotation.is_some(), s.evidence).len() / POSITION_BYTES;
+    Some(VanillaConsensusRead {
+        bases: s.bases,
+        quals: s.quals,
+        depths: front(depths, s.depths.len() / 2),
+        errors: front(errors, s.errors.len() / 2),
+        annotation: s.annotation,
+        evidence: evidence.front(places),
+    })
 }

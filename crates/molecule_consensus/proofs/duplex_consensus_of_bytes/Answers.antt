@@ -1,40 +1,32 @@
 -- `molecule_consensus::duplex_consensus_of_bytes` meets its contract: refused by rows 13 and 7, or read, and the record made of the numbers
 -- and its errors counted. Assumes nothing.
 use mathlib.Core.Path.{refl, sym, ◌∙◌}
+use Rattle.std.proofs.Common.{rules}
 use Rattle.std.proofs.lemmas.Result.{err_from_is_err_and}
-use Rattle.duplex_outputs.specs.Outputs.{record_of}
+use Rattle.methylation.specs.Outputs.{evidence_out}
+use Rattle.duplex_outputs.specs.Lent.{record_out}
 use Rattle.molecule_errors.proofs.Run.{listed_broken, listed_whole}
 use Rattle.molecule_consensus.proofs.Bytes.{torn_down, turned_down, first_narrow, second_narrow}
-use Rattle.molecule_consensus.proofs.Made.{strand_is, refused_by_row, made_of}
+use Rattle.molecule_consensus.proofs.Made.{strand_is, answered_of}
 use Rattle.molecule_consensus.proofs.duplex_consensus_of_bytes.Goals as goal
 
-pub returns-in_err-list : goal.returns-in_err-list
-returns-in_err-list c =
+pub returns-in_err-list-clause-made : goal.returns-in_err-list-clause-made
+returns-in_err-list-clause-made c =
     let p = err_from_is_err_and c.from_residual.result c.from_residual.ensures.1 in
-    let (torn, is) = listed_broken _ _ (sym c.count_listed.ensures ∙ c.in_err-list.was) in
-    rw (p.1, p.2, is) (torn_down c.args.a c.args.b _ _ _ torn)
+    let (torn, is) = listed_broken _ _ (sym c.read_list.ensures ∙ c.in_err-list.was) in
+    rw (p.1, p.2, is) (torn_down c.args.m.a c.args.m.b _ _ _ torn)
 
-pub returns-in_err-early_refusal : goal.returns-in_err-early_refusal
-returns-in_err-early_refusal c =
+pub returns-in_err-early_refusal-clause-made : goal.returns-in_err-early_refusal-clause-made
+returns-in_err-early_refusal-clause-made c =
     let p = err_from_is_err_and c.from_residual-in_err-early_refusal.result c.from_residual-in_err-early_refusal.ensures.1 in
-    let (whole, l) = listed_whole _ _ (sym c.count_listed.ensures ∙ c.in_ok-list.was) in
-    rw (p.1, p.2) (turned_down c.args.a c.args.b _ _ _ whole (sym c.early_refusal.ensures ∙ c.in_err-early_refusal.was))
+    let (whole, l) = listed_whole _ _ (sym c.read_list.ensures ∙ c.in_ok-list.was) in
+    rw (p.1, p.2) (turned_down c.args.m.a c.args.m.b _ _ _ whole (sym c.early_refusal.ensures ∙ c.in_err-early_refusal.was))
 
-pub returns-in_err-made : goal.returns-in_err-made
-returns-in_err-made c =
-    let p = err_from_is_err_and c.from_residual-in_err-made.result c.from_residual-in_err-made.ensures.1 in
-    let (whole, l) = listed_whole _ _ (sym c.count_listed.ensures ∙ c.in_ok-list.was) in
+pub returns-clause-made : goal.returns-clause-made
+returns-clause-made c =
+    let (whole, l) = listed_whole _ _ (sym c.read_list.ensures ∙ c.in_ok-list.was) in
     let early = sym c.early_refusal.ensures ∙ c.in_ok-early_refusal.was in
-    let before = record_of c.args.bases_out.now c.args.quals_out.now c.args.errors_out.now c.args.a_marks_out.now c.args.a_unconverted_out.now c.args.a_converted_out.now c.args.b_marks_out.now c.args.b_unconverted_out.now c.args.b_converted_out.now in
-    let first = strand_is c.args.a (first_narrow c.args.a c.args.b _ _ before whole early) c.strand_of_numbers-a_read.ensures c.read_strand.ensures in
-    let second = strand_is c.args.b (second_narrow c.args.a c.args.b _ _ before whole early) c.strand_of_numbers-b_read.ensures c.read_strand-2.ensures in
-    rw (p.1, p.2) (refused_by_row c.args.a c.args.b _ _ _ whole early l first second (rw c.in_err-made.was at c.duplex_record.ensures))
-
-pub returns : goal.returns
-returns c =
-    let (whole, l) = listed_whole _ _ (sym c.count_listed.ensures ∙ c.in_ok-list.was) in
-    let early = sym c.early_refusal.ensures ∙ c.in_ok-early_refusal.was in
-    let before = record_of c.args.bases_out.now c.args.quals_out.now c.args.errors_out.now c.args.a_marks_out.now c.args.a_unconverted_out.now c.args.a_converted_out.now c.args.b_marks_out.now c.args.b_unconverted_out.now c.args.b_converted_out.now in
-    let first = strand_is c.args.a (first_narrow c.args.a c.args.b _ _ before whole early) c.strand_of_numbers-a_read.ensures c.read_strand.ensures in
-    let second = strand_is c.args.b (second_narrow c.args.a c.args.b _ _ before whole early) c.strand_of_numbers-b_read.ensures c.read_strand-2.ensures in
-    (made_of c.args.a c.args.b _ _ _ whole early l first second (rw c.in_ok-made.was at c.duplex_record.ensures) refl refl c.count_errors.ensures)
+    let before = record_out c.args.out.now (evidence_out c.args.a_out.now) (evidence_out c.args.b_out.now) in
+    let first = strand_is c.args.m.a (first_narrow c.args.m.a c.args.m.b _ _ before whole early) c.strand_of_numbers-a_read.ensures (search (rules, c.read_strand.ensures.read)) in
+    let second = strand_is c.args.m.b (second_narrow c.args.m.a c.args.m.b _ _ before whole early) c.strand_of_numbers-b_read.ensures (search (rules, c.read_strand-2.ensures.read)) in
+    answered_of c.args.m.a c.args.m.b _ _ _ whole early l first second c.duplex_record-made.result c.duplex_record-made.ensures.made refl refl c.count_errors.ensures

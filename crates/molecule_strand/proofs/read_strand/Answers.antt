@@ -2,5 +2,5 @@
 use Rattle.molecule_strand.proofs.Strand.{none_read}
 use Rattle.molecule_strand.proofs.read_strand.Goals as goal
 
-pub returns-in_default : goal.returns-in_default
-returns-in_default c = rw c.in_default.is (none_read _)
+pub returns-in_default-clause-read : goal.returns-in_default-clause-read
+returns-in_default-clause-read c = rw c.in_default.is (none_read _)
