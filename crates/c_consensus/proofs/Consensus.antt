@@ -1,4 +1,4 @@
--- What is promised of a call from bytes to bytes, by what the calls below leave: `refused_before`, `refused_after`, `from_arrays`. The
+-- What is promised of a call from bytes to bytes, by what the calls below leave: `from_arrays`. The
 -- arrays between them have 1,024 places, so that row 12 refuses only for the bytes; where neither strand is annotated there are none for
 -- evidence (`plain_alone`), and none is looked at (`plain_seen`). Assumes nothing.
 use mathlib.Core.Path.{◌≡◌, refl, sym, ap, subst, ◌∙◌}
@@ -17,15 +17,13 @@ use Rattle.refusals.specs.declared.Refusal.{Refusal}
 use Rattle.refusals.specs.declared.Refusal.TheVariants.{Broken, TooLong, Ragged, TooManyReads, PartOutside, OutputTooShort}
 use Rattle.refusals.specs.Refusal.{◌if◌, too_many, refused}
 use Rattle.refusals.proofs.Outcome.{refused_by, passed_by}
-use Rattle.methylation.specs.Arrays.{EvidenceArrays, evidence_arrays, evidence_places, PutsEvidence}
+use Rattle.methylation.specs.Arrays.{EvidenceArrays, evidence_arrays, evidence_fronts, evidence_places, PutsEvidence}
 use Rattle.methylation.specs.Methylation.{is_annotated}
-use Rattle.vanilla_caller.specs.Strand.{lengths}
 use Rattle.vanilla_caller.proofs.Strand.{even}
 use Rattle.duplex_outputs.specs.Outputs.{RecordArrays, record_of, record_lengths, record_too_short, LeavesRecord}
-use Rattle.duplex_outputs.specs.declared.RecordLengths.{RecordLengths}
 use Rattle.duplex_outputs.proofs.Outputs.{PutsRecord}
 use Rattle.duplex_strands.specs.Combine.{combined_bases, combined_quals, combined_errors, estimates, kept_marks, kept_unconverted, kept_converted}
-use Rattle.duplex_kind.specs.Kind.{Strand, given, annotated, positions, kind_of, long, uneven, strand_faults}
+use Rattle.duplex_kind.specs.Kind.{Strand, given, positions, kind_of, long, uneven, strand_faults}
 use Rattle.duplex_kind.specs.declared.DuplexConsensus.{DuplexConsensus}
 use Rattle.duplex_kind.specs.declared.DuplexConsensus.TheVariants.{Ab, Ba, Both}
 use Rattle.duplex_kind.proofs.Kind.{Passes, taken, is_ab, is_ba}
@@ -34,7 +32,7 @@ use Rattle.molecule_reads.specs.Run.{reads_of}
 use Rattle.molecule_strand.specs.Strand.{StrandBytes, strand_bytes, strand_of}
 use Rattle.molecule_consensus.specs.Bytes.{seen, plain, broken, bytes_refused, inputs_refused, bytes_record, BytesAs}
 use Rattle.molecule_consensus.proofs.Ample.{zeros_ample, inputs_alone}
-use Rattle.c_record.specs.Outputs.{RecordBytes, as_arrays, written_of, short_for, outputs_refused, evidence_fronts, fronts, WrittenAs}
+use Rattle.c_record.specs.Outputs.{RecordBytes, as_arrays, written_of, short_for, outputs_refused, fronts, WrittenAs}
 use Rattle.c_record.specs.declared.Written.{Written}
 use Rattle.c_consensus.specs.Consensus.{ConsensusBytesAs}
 use Rattle.methylation.specs.declared.ConversionPattern.{ConversionPattern}
@@ -49,25 +47,25 @@ zeros =
 abbrev pub plain_zeros : RecordArrays
 plain_zeros = record_of (replicate 1024 0) (replicate 1024 0) (replicate 1024 0) [] [] [] [] [] []
 
-plain_short : (a b : Strand) (k : Option DuplexConsensus) → annotated a ≡ false → annotated b ≡ false → outputs_short a b plain_zeros k ≡ outputs_short a b zeros k
+plain_short : (a b : Strand) (k : Option DuplexConsensus) → a.annotation ≡ None → b.annotation ≡ None → outputs_short a b plain_zeros k ≡ outputs_short a b zeros k
 plain_short a b None e f = refl
 plain_short a b (Some (Ab n)) e f = rw e
 plain_short a b (Some (Ba n)) e f = rw f
 plain_short a b (Some (Both n)) e f = rw (e, f)
 
-plain_strand : (s : StrandBytes) → is_annotated s.annotation ≡ false → annotated (strand_of s) ≡ false
+plain_strand : (s : StrandBytes) → s.annotation ≡ None → (strand_of s).annotation ≡ None
 unfolding strand_of
 plain_strand s e = e
 
-pub same_annotated : (s : StrandBytes) {p : Bool} → p ≡ is_annotated s.annotation → p ≡ annotated (strand_of (seen s))
+pub same_annotation : (s : StrandBytes) {p : Option ConversionPattern} → p ≡ s.annotation → p ≡ (strand_of (seen s)).annotation
 unfolding strand_of
-same_annotated s e = e
+same_annotation s e = e
 
-pub plain_annotated : (s : StrandBytes) → false ≡ annotated (strand_of (seen (plain s)))
+pub plain_annotation : (s : StrandBytes) → None ≡ (strand_of (seen (plain s))).annotation
 unfolding strand_of
-plain_annotated s = refl
+plain_annotation s = refl
 
-pub plain_alone : (a b : StrandBytes) (listed : Bool) (run : List ℕ) → is_annotated a.annotation ≡ false → is_annotated b.annotation ≡ false → bytes_refused a b listed run plain_zeros ≡ inputs_refused a b listed run
+pub plain_alone : (a b : StrandBytes) (listed : Bool) (run : List ℕ) → a.annotation ≡ None → b.annotation ≡ None → bytes_refused a b listed run plain_zeros ≡ inputs_refused a b listed run
 plain_alone a b listed run e f =
     ap (λ (short : Bool). refused ((Broken if broken a b listed run) ∷ (strand_faults (strand_of a) (strand_of b) listed (length (reads_of run)) false ++ (OutputTooShort if short) ∷ []))) (plain_short (strand_of a) (strand_of b) (kind_of (strand_of a) (strand_of b)) (plain_strand a e) (plain_strand b f))
     ∙ inputs_alone a b listed run zeros zeros_ample
@@ -100,10 +98,10 @@ record Sized (w : Written) (r : RecordArrays) : Type 0 where
 none_sized : SizedEvidence 0 (evidence_arrays [] [] [])
 none_sized = record { marks = refl; unconverted = refl; converted = refl }
 
-sized_if : (there : Bool) (n : ℕ) (f : ℕ → ℕ) → length (only_if there (tabulate n f)) ≡ evidence_places there n
+sized_if : (annotation : Option ConversionPattern) (n : ℕ) (f : ℕ → ℕ) → length (only_if (is_annotated annotation) (tabulate n f)) ≡ evidence_places annotation n
 unfolding only_if
-sized_if true n f = length_tabulate n f
-sized_if false n f = refl
+sized_if (Some pattern) n f = length_tabulate n f
+sized_if None n f = refl
 
 -- With a list or without.
 errors_sized : (listed : Bool) (counted : ℕ → ℕ) (n : ℕ) (f : ℕ → ℕ) → length (cond listed (tabulate n counted) (tabulate n f)) ≡ n
@@ -113,14 +111,14 @@ errors_sized false counted n f = length_tabulate n f
 -- A strand that row 8 does not refuse has as many qualities and errors as bases.
 as_many : (s : Strand) → Passes s → (length s.arrays.quals ≡ positions s) × (length s.arrays.errors ≡ positions s)
 as_many s p =
-    let same = (even (annotated s) (lengths s.arrays) p.not_uneven).own in
+    let same = (even s.annotation s.arrays p.not_uneven).own in
     (same.0, same.1.1.0)
 
 module _ (a b : Strand) (listed : Bool) (counted : ℕ → ℕ) (count : ℕ) where
   abbrev made_of : Option DuplexConsensus → RecordArrays
   made_of k = record_arrays a b listed counted k
 
-  sized : (k : Option DuplexConsensus) → refused (strand_faults a b listed count false) ≡ None → kind_of a b ≡ k → Sized (written_of (annotated a) (annotated b) k) (made_of k)
+  sized : (k : Option DuplexConsensus) → refused (strand_faults a b listed count false) ≡ None → kind_of a b ≡ k → Sized (written_of a.annotation b.annotation k) (made_of k)
   unfolding combined_bases combined_quals combined_errors estimates kept_marks kept_unconverted kept_converted
   sized None z e = record { bases = refl; quals = refl; errors = refl; a = none_sized; b = none_sized }
   sized (Some (Ab m)) z e =
@@ -132,9 +130,9 @@ module _ (a b : Strand) (listed : Bool) (counted : ℕ → ℕ) (count : ℕ) wh
         quals = quals ∙ size;
         errors = errors ∙ size;
         a = record {
-          marks = sized_if (annotated a) (positions a) _ ∙ ap (evidence_places (annotated a)) size;
-          unconverted = sized_if (annotated a) (positions a) _ ∙ ap (evidence_places (annotated a)) size;
-          converted = sized_if (annotated a) (positions a) _ ∙ ap (evidence_places (annotated a)) size;
+          marks = sized_if a.annotation (positions a) _ ∙ ap (evidence_places a.annotation) size;
+          unconverted = sized_if a.annotation (positions a) _ ∙ ap (evidence_places a.annotation) size;
+          converted = sized_if a.annotation (positions a) _ ∙ ap (evidence_places a.annotation) size;
         };
         b = none_sized;
       }
@@ -147,9 +145,9 @@ module _ (a b : Strand) (listed : Bool) (counted : ℕ → ℕ) (count : ℕ) wh
         quals = quals ∙ size;
         errors = errors ∙ size;
         a = record {
-          marks = sized_if (annotated b) (positions b) _ ∙ ap (evidence_places (annotated b)) size;
-          unconverted = sized_if (annotated b) (positions b) _ ∙ ap (evidence_places (annotated b)) size;
-          converted = sized_if (annotated b) (positions b) _ ∙ ap (evidence_places (annotated b)) size;
+          marks = sized_if b.annotation (positions b) _ ∙ ap (evidence_places b.annotation) size;
+          unconverted = sized_if b.annotation (positions b) _ ∙ ap (evidence_places b.annotation) size;
+          converted = sized_if b.annotation (positions b) _ ∙ ap (evidence_places b.annotation) size;
         };
         b = none_sized;
       }
@@ -157,8 +155,8 @@ module _ (a b : Strand) (listed : Bool) (counted : ℕ → ℕ) (count : ℕ) wh
     bases = length_tabulate m _;
     quals = length_tabulate m _;
     errors = errors_sized listed counted m _;
-    a = record { marks = sized_if (annotated a) m _; unconverted = sized_if (annotated a) m _; converted = sized_if (annotated a) m _ };
-    b = record { marks = sized_if (annotated b) m _; unconverted = sized_if (annotated b) m _; converted = sized_if (annotated b) m _ };
+    a = record { marks = sized_if a.annotation m _; unconverted = sized_if a.annotation m _; converted = sized_if a.annotation m _ };
+    b = record { marks = sized_if b.annotation m _; unconverted = sized_if b.annotation m _; converted = sized_if b.annotation m _ };
   }
 
 -- What was written to the front of an array is read there.
@@ -193,12 +191,12 @@ puts l = record {
 }
 
 -- Where nothing is written, nothing is too short.
-none_short : (out : RecordLengths) → record_too_short 0 false false out ≡ false
-none_short out = rw (le-ltb out.bases 0 zero-le, le-ltb out.quals 0 zero-le, le-ltb out.errors 0 zero-le)
+none_short : (out : RecordArrays) → record_too_short 0 (record_lengths None None out) ≡ false
+none_short out = rw (le-ltb (length out.bases) 0 zero-le, le-ltb (length out.quals) 0 zero-le, le-ltb (length out.errors) 0 zero-le)
 
 -- Refusal 12, by what is written of an answer.
-same_short : (a b : Strand) (out : RecordArrays) (k : Option DuplexConsensus) → short_for (written_of (annotated a) (annotated b) k) out ≡ outputs_short a b out k
-same_short a b out None = none_short (record_lengths out)
+same_short : (a b : Strand) (out : RecordArrays) (k : Option DuplexConsensus) → short_for (written_of a.annotation b.annotation k) out ≡ outputs_short a b out k
+same_short a b out None = none_short out
 same_short a b out (Some (Ab n)) = refl
 same_short a b out (Some (Ba n)) = refl
 same_short a b out (Some (Both n)) = refl
@@ -293,15 +291,6 @@ module _ (a b : StrandBytes) (listed : Bool) (run : List ℕ) where
     abbrev out : RecordArrays
     out = as_arrays before
 
-    -- Refused for what was given.
-    pub refused_before : {row : Refusal} → BytesAs a b listed run between now (Err row) → ConsensusBytesAs a b listed run before before (Err row)
-    refused_before {row} l =
-        let e : bytes_refused a b listed run out ≡ Some row = given_refused out (sym alone ∙ refused_by _ _ (sym l.answered)) in
-        record {
-          answered = rw e;
-          outputs = record { bases = rw e; quals = rw e; errors = rw e; evidence_a = rw e; evidence_b = rw e };
-        }
-
     -- Not refused for that: the arrays have the record.
     module _ {made : Option DuplexConsensus} (l : BytesAs a b listed run between now (Ok made)) where
       passes : (inputs ≡ None) × (kind ≡ made)
@@ -315,7 +304,7 @@ module _ (a b : StrandBytes) (listed : Bool) (run : List ℕ) where
           puts (subst (λ (x : Option Refusal). LeavesRecord x (bytes_record a b listed run) between now) none l.outputs)
 
       abbrev w : Written
-      w = written_of (annotated first) (annotated second) kind
+      w = written_of first.annotation second.annotation kind
 
       number : outputs_refused w before ≡ bytes_refused a b listed run out
       number = ap last_row (same_short first second out kind) ∙ sym (given_passed out passes.0)
@@ -323,24 +312,29 @@ module _ (a b : StrandBytes) (listed : Bool) (run : List ℕ) where
       written : fronts w now ≡ bytes_record a b listed run
       written = same_fronts w (bytes_record a b listed run) between now (sized first second listed _ (length (reads_of run)) kind (given_pass passes.0) refl) left
 
-      module _ (after : RecordBytes) {p q : Bool} (e : p ≡ annotated first) (f : q ≡ annotated second) where
-        abbrev Wrote : Result (Unit {0}) Refusal → Type 0
-        Wrote r = WrittenAs (written_of p q made) now before after r
+      of_made : {after : RecordBytes} {r : Result (Option DuplexConsensus) Refusal} → WrittenAs first.annotation second.annotation (Ok made) now before after r → ConsensusBytesAs a b listed run before after r
+      of_made x =
+          let y = rw (← passes.1) at x in
+          record { answered = rw number at y.answered; outputs = rw (← number, ← written) y.outputs }
 
-        own : {r : Result (Unit {0}) Refusal} → Wrote r → WrittenAs w now before after r
-        own x = rw (passes.1, ← e, ← f) x
+    -- What was refused for what was given is not written.
+    of_refused : {after : RecordBytes} {row : Refusal} {r : Result (Option DuplexConsensus) Refusal} → BytesAs a b listed run between now (Err row) → (r ≡ Err row) × (after ≡ before) → ConsensusBytesAs a b listed run before after r
+    of_refused {after} {row} l x =
+        let e : bytes_refused a b listed run out ≡ Some row = given_refused out (sym alone ∙ refused_by _ _ (sym l.answered)) in
+        rw x.1 (record {
+          answered = rw e x.0;
+          outputs = record { bases = rw e; quals = rw e; errors = rw e; evidence_a = rw e; evidence_b = rw e };
+        })
 
-        pub refused_after : {row : Refusal} → Wrote (Err row) → ConsensusBytesAs a b listed run before after (Err row)
-        refused_after {row} x =
-            let y = own x in
-            let m : bytes_refused a b listed run out ≡ Some row = sym number ∙ refused_by _ _ (sym y.answered) in
-            record { answered = rw m; outputs = rw (← number, ← written) y.outputs }
-
-        pub from_arrays : {u : Unit {0}} → Wrote (Ok u) → ConsensusBytesAs a b listed run before after (Ok made)
-        from_arrays x =
-            let y = own x in
-            let m : bytes_refused a b listed run out ≡ None = sym number ∙ (passed_by _ _ (sym y.answered)).0 in
-            record { answered = rw (m, passes.1); outputs = rw (← number, ← written) y.outputs }
+    pub from_arrays :
+        {after : RecordBytes} {p q : Option ConversionPattern} (made : Result (Option DuplexConsensus) Refusal) {r : Result (Option DuplexConsensus) Refusal}
+        → p ≡ first.annotation
+        → q ≡ second.annotation
+        → BytesAs a b listed run between now made
+        → WrittenAs p q made now before after r
+        → ConsensusBytesAs a b listed run before after r
+    from_arrays (Ok made) e f l x = of_made l (rw (e, f) at x)
+    from_arrays (Err row) e f l x = of_refused l x
 
 -- The same of strands that are equal.
 pub by_strands : {a a' b b' : StrandBytes} {listed : Bool} {run : List ℕ} {before now : RecordBytes} {r : Result (Option DuplexConsensus) Refusal} → a' ≡ a → b' ≡ b → ConsensusBytesAs a b listed run before now r → ConsensusBytesAs a' b' listed run before now r

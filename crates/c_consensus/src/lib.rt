@@ -2,42 +2,37 @@
 // outputs are c_record's. Uses refusals, methylation, duplex_kind, molecule_strand, molecule_consensus and c_record.
 #![tactic(auto)]
 
-ghost use Rattle.std.specs.Prelude.{◌≡◌, is_some};
-ghost use Rattle.methylation.specs.Methylation.{is_annotated};
+ghost use Rattle.std.specs.Prelude.{◌≡◌, []};
 ghost use Rattle.molecule_strand.specs.Strand.{encoded_in};
-ghost use Rattle.molecule_errors.specs.Run.{run_in};
-ghost use Rattle.molecule_consensus.specs.Bytes.{seen};
-ghost use Rattle.c_record.specs.Outputs.{record_bytes};
-ghost use Rattle.c_consensus.specs.Consensus.{ConsensusBytesAs};
+ghost use Rattle.molecule_consensus.specs.Molecule.{molecule_in, seen_of};
+ghost use Rattle.duplex_outputs.specs.Outputs.{record_of};
+ghost use Rattle.c_record.specs.Outputs.{record_in};
+ghost use Rattle.c_record.specs.Lent.{bytes_out, SameBytes};
+ghost use Rattle.c_consensus.specs.Consensus.{MoleculeBytesAs};
 
-use c_record::{RecordSlices, write_record};
+use c_record::{ByteOutputs, RecordSlices, write_record};
 use duplex_kind::DuplexConsensus;
-use methylation::EvidenceSlices;
-use molecule_consensus::{duplex_consensus_of_bytes, plain_consensus_of_bytes};
+use duplex_outputs::RecordOutputs;
+use methylation::{ConversionPattern, EvidenceOutputs, EvidenceSlices};
+use molecule_consensus::{EncodedMolecule, duplex_consensus_of_bytes, plain_consensus_of_bytes};
 use molecule_strand::EncodedStrand;
 use refusals::Refusal;
 
-fn is_annotated(s: Option<EncodedStrand>) -> bool
-    ensures { result ≡ is_annotated (encoded_in s.entry).annotation }
+fn annotation_of(s: Option<EncodedStrand>) -> Option<ConversionPattern>
+    ensures { result ≡ (encoded_in s.entry).annotation }
 {
-    s.is_some_and(|s| s.annotation.is_some())
+    s.and_then(|s| s.annotation)
 }
 
 // The record, with arrays for evidence.
-// Lent outputs stay apart: the borrow checker has no rule for a struct of them that is passed on.
 fn annotated_bytes(
-    a: Option<EncodedStrand>,
-    b: Option<EncodedStrand>,
-    run: Option<&[u8]>,
-    bases_out: &mut [u8],
-    quals_out: &mut [u8],
-    errors_out: &mut [u8],
-    a_evidence_out: &mut [u8],
-    b_evidence_out: &mut [u8],
+    m: EncodedMolecule,
+    out: &mut ByteOutputs<'_>,
 ) -> Result<Option<DuplexConsensus>, Refusal>
-    ensures { ConsensusBytesAs (seen (encoded_in a.entry)) (seen (encoded_in b.entry)) (is_some run.entry) (run_in run.entry)
-        (record_bytes bases_out.old quals_out.old errors_out.old a_evidence_out.old b_evidence_out.old)
-        (record_bytes bases_out.new quals_out.new errors_out.new a_evidence_out.new b_evidence_out.new)
+    ensures same_references { SameBytes out.old out.new }
+    ensures made { MoleculeBytesAs (seen_of (molecule_in m.entry))
+        (bytes_out out.old)
+        (bytes_out out.new)
         result }
 {
     // No heap: arrays of the most that is looked at.
@@ -50,20 +45,22 @@ fn annotated_bytes(
     let mut b_marks = [0; 1024];
     let mut b_unconverted = [0; 1024];
     let mut b_converted = [0; 1024];
-    let made = duplex_consensus_of_bytes(
-        a,
-        b,
-        run,
-        &mut bases,
-        &mut quals,
-        &mut errors,
-        &mut a_marks,
-        &mut a_unconverted,
-        &mut a_converted,
-        &mut b_marks,
-        &mut b_unconverted,
-        &mut b_converted,
-    )?;
+    let mut own = RecordOutputs {
+        bases: &mut bases,
+        quals: &mut quals,
+        errors: &mut errors,
+    };
+    let mut a_evidence = EvidenceOutputs {
+        marks: &mut a_marks,
+        unconverted: &mut a_unconverted,
+        converted: &mut a_converted,
+    };
+    let mut b_evidence = EvidenceOutputs {
+        marks: &mut b_marks,
+        unconverted: &mut b_unconverted,
+        converted: &mut b_converted,
+    };
+    let made = duplex_consensus_of_bytes(m, &mut own, &mut a_evidence, &mut b_evidence);
     let arrays = RecordSlices {
         bases: &bases,
         quals: &quals,
@@ -79,77 +76,52 @@ fn annotated_bytes(
             converted: &b_converted,
         },
     };
-    write_record(
-        made,
-        is_annotated(a),
-        is_annotated(b),
-        arrays,
-        bases_out,
-        quals_out,
-        errors_out,
-        a_evidence_out,
-        b_evidence_out,
-    )?;
-    Ok(made)
+    write_record(made, annotation_of(m.a), annotation_of(m.b), arrays, out)
 }
 
-// The record of two strands, of one or of none. Evidence is not looked at without an annotation. Refuses by 13, 7, 8, 9, then by 12
-// for what is written.
-// Lent outputs stay apart: the borrow checker has no rule for a struct of them that is passed on.
-pub fn duplex_consensus_bytes(
-    a: Option<EncodedStrand>,
-    b: Option<EncodedStrand>,
-    run: Option<&[u8]>,
-    bases_out: &mut [u8],
-    quals_out: &mut [u8],
-    errors_out: &mut [u8],
-    a_evidence_out: &mut [u8],
-    b_evidence_out: &mut [u8],
-) -> Result<Option<DuplexConsensus>, Refusal>
-    ensures { ConsensusBytesAs (seen (encoded_in a.entry)) (seen (encoded_in b.entry)) (is_some run.entry) (run_in run.entry)
-        (record_bytes bases_out.old quals_out.old errors_out.old a_evidence_out.old b_evidence_out.old)
-        (record_bytes bases_out.new quals_out.new errors_out.new a_evidence_out.new b_evidence_out.new)
-        result }
+// The arrays of a record that has none for evidence.
+fn plain_arrays<'a>(bases: &'a [u8], quals: &'a [u8], errors: &'a [u16]) -> RecordSlices<'a>
+    ensures { record_in result ≡ record_of bases.now quals.now errors.now [] [] [] [] [] [] }
 {
-    if is_annotated(a) | is_annotated(b) {
-        return annotated_bytes(
-            a,
-            b,
-            run,
-            bases_out,
-            quals_out,
-            errors_out,
-            a_evidence_out,
-            b_evidence_out,
-        );
-    }
-    // No heap: arrays of the most that is looked at.
-    let mut bases = [0; 1024];
-    let mut quals = [0; 1024];
-    let mut wrong = [0; 1024];
-    let made = plain_consensus_of_bytes(a, b, run, &mut bases, &mut quals, &mut wrong)?;
     let none = EvidenceSlices {
         marks: &[],
         unconverted: &[],
         converted: &[],
     };
-    let arrays = RecordSlices {
-        bases: &bases,
-        quals: &quals,
-        errors: &wrong,
+    RecordSlices {
+        bases,
+        quals,
+        errors,
         a: none,
         b: none,
+    }
+}
+
+// The record of two strands, of one or of none. Evidence is not looked at without an annotation. Refuses by 13, 7, 8, 9, then by 12
+// for what is written.
+pub fn duplex_consensus_bytes(
+    m: EncodedMolecule,
+    out: &mut ByteOutputs<'_>,
+) -> Result<Option<DuplexConsensus>, Refusal>
+    ensures same_references { SameBytes out.old out.new }
+    ensures made { MoleculeBytesAs (seen_of (molecule_in m.entry))
+        (bytes_out out.old)
+        (bytes_out out.new)
+        result }
+{
+    if annotation_of(m.a).is_some() | annotation_of(m.b).is_some() {
+        return annotated_bytes(m, out);
+    }
+    // No heap: arrays of the most that is looked at.
+    let mut bases = [0; 1024];
+    let mut quals = [0; 1024];
+    let mut wrong = [0; 1024];
+    let mut own = RecordOutputs {
+        bases: &mut bases,
+        quals: &mut quals,
+        errors: &mut wrong,
     };
-    write_record(
-        made,
-        false,
-        false,
-        arrays,
-        bases_out,
-        quals_out,
-        errors_out,
-        a_evidence_out,
-        b_evidence_out,
-    )?;
-    Ok(made)
+    let made = plain_consensus_of_bytes(m, &mut own);
+    let arrays = plain_arrays(&bases, &quals, &wrong);
+    write_record(made, None, None, arrays, out)
 }

@@ -1,10 +1,9 @@
 -- What is promised of the entry for the combination.
---     turned_down     a pattern is wrong
---     passed_on       none is: what the call on bytes promises
+--     by_patterns     of strands that may be refused for their patterns
 --     entry_as        of the arguments as C gives them, with the answer as numbers
 -- Assumes nothing.
 use mathlib.Core.Path.{◌≡◌, refl, ap, subst, ◌∙◌}
-use mathlib.Core.Bool.{Bool, true, false, ◌||◌}
+use mathlib.Core.Bool.{Bool, true, false, cond, ◌||◌}
 use mathlib.Core.List.{List, []}
 use Prim.Native.Nat.{ℕ}
 use Rattle.std.specs.Prelude.{is_some}
@@ -14,7 +13,7 @@ use denote.Ref.{Bor}
 use Rattle.lists.specs.Part.{only_if}
 use Rattle.refusals.specs.declared.Refusal.{Refusal}
 use Rattle.refusals.specs.declared.Refusal.TheVariants.{Broken}
-use Rattle.refusals.specs.Outcome.{refused_if}
+use Rattle.refusals.specs.Outcome.{answer}
 use Rattle.methylation.specs.declared.ConversionPattern.{ConversionPattern}
 use Rattle.duplex_kind.specs.Kind.{Strand, kind_of}
 use Rattle.duplex_kind.specs.declared.DuplexConsensus.{DuplexConsensus}
@@ -28,26 +27,34 @@ use Rattle.molecule_strand.specs.Strand.{StrandBytes, strand_bytes, strand_of}
 use Rattle.molecule_errors.specs.Run.{run_in, run_errors}
 use Rattle.molecule_consensus.specs.Bytes.{seen, bytes_record}
 use Rattle.c_record.specs.Outputs.{RecordBytes, as_bytes, LeavesBytes}
-use Rattle.c_consensus.specs.Consensus.{ConsensusBytesAs}
-use Rattle.c_interface.specs.Entry.{entry_refused, ConsensusBy, ConsensusEntry}
+use Rattle.c_interface.specs.Entry.{entry_refused, Untouched, ConsensusOf, ConsensusEntry}
 
-module _ (a b : StrandBytes) (listed : Bool) (run : List ℕ) (before : RecordBytes) where
-  pub turned_down : (wrong : Bool) {e : Refusal} {r : Result (Option DuplexConsensus) Refusal} → refused_if wrong Broken ≡ Err e → r ≡ Err e → ConsensusBy wrong a b listed run before before r
-  turned_down true {e} h told =
-      let broken : e ≡ Broken = cc in
-      record {
-        answered = told ∙ ap Err broken;
-        outputs = record { bases = refl; quals = refl; errors = refl; evidence_a = refl; evidence_b = refl };
-      }
-  turned_down false h told = absurd cc
+-- What the combination answers and leaves, where a pattern is wrong or not.
+pub record ConsensusBy (wrong : Bool) (a b : StrandBytes) (listed : Bool) (run : List ℕ) (before now : RecordBytes) (r : Result (Option DuplexConsensus) Refusal) : Type 0 where
+  pub answered : r ≡ answer (entry_refused wrong a b listed run before) (kind_of (strand_of a) (strand_of b))
+  pub outputs : LeavesBytes (entry_refused wrong a b listed run before) (as_bytes (bytes_record a b listed run)) before now
 
-  pub passed_on :
-      (wrong : Bool) {u : Unit {0}} {now : RecordBytes} {r : Result (Option DuplexConsensus) Refusal}
-      → refused_if wrong Broken ≡ Ok u
-      → ConsensusBytesAs a b listed run before now r
-      → ConsensusBy wrong a b listed run before now r
-  passed_on true h x = absurd cc
-  passed_on false h x = record { answered = x.answered; outputs = x.outputs }
+module _ (a b : StrandBytes) (listed : Bool) (run : List ℕ) (before now : RecordBytes) (r : Result (Option DuplexConsensus) Refusal) where
+  turned_down : Untouched Broken before now r → ConsensusBy true (seen a) (seen b) listed run before now r
+  turned_down x = record {
+    answered = x.answered;
+    outputs = record {
+      bases = ap (λ (o : RecordBytes). o.bases) x.outputs;
+      quals = ap (λ (o : RecordBytes). o.quals) x.outputs;
+      errors = ap (λ (o : RecordBytes). o.errors) x.outputs;
+      evidence_a = ap (λ (o : RecordBytes). o.evidence_a) x.outputs;
+      evidence_b = ap (λ (o : RecordBytes). o.evidence_b) x.outputs;
+    };
+  }
+
+  -- By the patterns' tests p and q.
+  by_patterns :
+      (p q : Bool)
+      → ConsensusOf (cond p (Err Broken) (Ok a)) (cond q (Err Broken) (Ok b)) listed run before now r
+      → ConsensusBy (p || q) (seen a) (seen b) listed run before now r
+  by_patterns true q x = turned_down x
+  by_patterns false true x = turned_down x
+  by_patterns false false x = record { answered = x.answered; outputs = x.outputs }
 
 -- Looked at a second time it is the same.
 seen_twice :
@@ -83,21 +90,19 @@ by_list wrong a b false run before now r x = record {
   outputs = subst (λ (w : RecordArrays). LeavesBytes (entry_refused wrong a b false run.now before) (as_bytes w) before now) (unlisted a b run.now) x.outputs;
 }
 
--- The patterns' tests p and q, of which the code has s and t; the strands a and b as far as they are looked at, and the list as C gives it.
+-- The patterns' tests p and q; the strands a and b as far as they are looked at, and the list as C gives it.
 pub entry_as :
-    (p q : Bool) (a b : StrandBytes) (listed : Bool) (run : Bor (List ℕ)) {s t : Bool} {x y : StrandBytes} {list : Option (Bor (List ℕ))} {before now : RecordBytes}
-    {r : Result (Option DuplexConsensus) Refusal} {reply : DuplexRecord}
-    → s ≡ p
-    → t ≡ q
-    → x ≡ seen a
-    → y ≡ seen b
+    (p q : Bool) (a b : StrandBytes) (listed : Bool) (run : Bor (List ℕ)) {x y : Result StrandBytes Refusal} {list : Option (Bor (List ℕ))} {before now : RecordBytes}
+    (r : Result (Option DuplexConsensus) Refusal) {reply : DuplexRecord}
+    → x ≡ cond p (Err Broken) (Ok (seen a))
+    → y ≡ cond q (Err Broken) (Ok (seen b))
     → list ≡ then_some listed run
-    → ConsensusBy (s || t) (seen x) (seen y) (is_some list) (run_in list) before now r
+    → ConsensusOf x y (is_some list) (run_in list) before now r
     → reply ≡ record_for r
     → ConsensusEntry (p || q) (seen a) (seen b) listed run.now before now reply
-entry_as p q a b listed run {before = before} {now = now} {r = r} e f g h l made told =
+entry_as p q a b listed run {before = before} {now = now} r e f l made told =
     let first = seen_twice a.present a.annotation a.bases a.quals a.depths a.errors a.evidence in
     let second = seen_twice b.present b.annotation b.bases b.quals b.depths b.errors b.evidence in
-    let same : ConsensusBy (p || q) (seen (seen a)) (seen (seen b)) (is_some (then_some listed run)) (run_in (then_some listed run)) before now r = rw (e, f, g, h, l) at made in
+    let same = by_patterns (seen a) (seen b) (is_some (then_some listed run)) (run_in (then_some listed run)) before now r p q (rw (e, f, l) at made) in
     let m = by_list (p || q) (seen a) (seen b) listed run before now r (rw (first, second) at same) in
     record { answered = told ∙ ap record_for m.answered; outputs = m.outputs }

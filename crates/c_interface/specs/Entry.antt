@@ -1,6 +1,6 @@
 -- What the entries for C give, document 01's forms for the viewer: the library's calls from bytes to bytes, with numbers for what is
 -- there or not and for an answer.
-use Rattle.std.specs.Prelude.{Option, Result, ℕ, ◌≡◌, Bool, ◌&&◌, List, ◌∷◌}
+use Rattle.std.specs.Prelude.{Option, Result, Ok, Err, ℕ, ◌≡◌, Bool, cond, ◌&&◌, List, ◌∷◌}
 use Rattle.refusals.specs.declared.Refusal.{Refusal}
 use Rattle.refusals.specs.declared.Refusal.TheVariants.{Broken}
 use Rattle.refusals.specs.Refusal.{◌if◌, refused}
@@ -10,8 +10,10 @@ use Rattle.duplex_kind.specs.Kind.{kind_of}
 use Rattle.duplex_kind.specs.declared.DuplexConsensus.{DuplexConsensus}
 use Rattle.duplex_reply.specs.Reply.{record_for}
 use Rattle.duplex_reply.specs.declared.DuplexRecord.{DuplexRecord}
-use Rattle.molecule_strand.specs.Strand.{StrandBytes, annotation_of, strand_bytes, strand_of}
+use Rattle.molecule_strand.specs.Strand.{StrandBytes, annotation_of, wrong_pattern, strand_bytes, encoded_in, strand_of}
+use Rattle.molecule_strand.specs.declared.EncodedStrand.{EncodedStrand}
 use Rattle.molecule_consensus.specs.Bytes.{seen, bytes_faults, bytes_record}
+use Rattle.c_consensus.specs.Consensus.{ConsensusBytesAs}
 use Rattle.c_record.specs.Outputs.{RecordBytes, as_bytes, as_arrays, LeavesBytes}
 
 -- A pattern is looked at of a strand that is there and annotated.
@@ -23,16 +25,32 @@ abbrev pub strand_given : ℕ → ℕ → ℕ → List ℕ → List ℕ → List
 strand_given present annotated pattern bases quals depths errors evidence =
     seen (strand_bytes (yes present) (annotation_of (told present annotated) pattern) bases quals depths errors evidence)
 
+-- The strand, or 13 for a pattern that is looked at.
+abbrev pub strand_told : ℕ → ℕ → ℕ → List ℕ → List ℕ → List ℕ → List ℕ → List ℕ → Result StrandBytes Refusal
+strand_told present annotated pattern bases quals depths errors evidence =
+    cond (wrong_pattern (told present annotated) pattern) (Err Broken) (Ok (strand_given present annotated pattern bases quals depths errors evidence))
+
+-- As the code has it.
+abbrev pub told_by : Result (Option EncodedStrand) Refusal → Result StrandBytes Refusal
+told_by (Ok s) = Ok (encoded_in s)
+told_by (Err refusal) = Err refusal
+
+-- A refusal, with nothing written.
+pub record Untouched (refusal : Refusal) (before now : RecordBytes) (r : Result (Option DuplexConsensus) Refusal) : Type 0 where
+  pub answered : r ≡ Err refusal
+  pub outputs : now ≡ before
+
+-- What the combination of two strands answers and leaves, each of which may be refused.
+abbrev pub ConsensusOf : Result StrandBytes Refusal → Result StrandBytes Refusal → Bool → List ℕ → RecordBytes → RecordBytes → Result (Option DuplexConsensus) Refusal → Type 0
+ConsensusOf (Err refusal) b listed run before now r = Untouched refusal before now r
+ConsensusOf (Ok a) (Err refusal) listed run before now r = Untouched refusal before now r
+ConsensusOf (Ok a) (Ok b) listed run before now r = ConsensusBytesAs (seen a) (seen b) listed run before now r
+
 -- Refusal 13 for a pattern, before all that refuses the library's call.
 abbrev pub entry_refused : Bool → StrandBytes → StrandBytes → Bool → List ℕ → RecordBytes → Option Refusal
 entry_refused wrong a b listed run out = refused ((Broken if wrong) ∷ bytes_faults a b listed run (as_arrays out))
 
--- What the combination answers and leaves, where a pattern is wrong or not.
-pub record ConsensusBy (wrong : Bool) (a b : StrandBytes) (listed : Bool) (run : List ℕ) (before now : RecordBytes) (r : Result (Option DuplexConsensus) Refusal) : Type 0 where
-  pub answered : r ≡ answer (entry_refused wrong a b listed run before) (kind_of (strand_of a) (strand_of b))
-  pub outputs : LeavesBytes (entry_refused wrong a b listed run before) (as_bytes (bytes_record a b listed run)) before now
-
--- The same with the answer as numbers: what `gedrashiw_duplex_consensus` answers and leaves.
+-- What `gedrashiw_duplex_consensus` answers, as numbers, and leaves, where a pattern is wrong or not.
 pub record ConsensusEntry (wrong : Bool) (a b : StrandBytes) (listed : Bool) (run : List ℕ) (before now : RecordBytes) (r : DuplexRecord) : Type 0 where
   pub answered : r ≡ record_for (answer (entry_refused wrong a b listed run before) (kind_of (strand_of a) (strand_of b)))
   pub outputs : LeavesBytes (entry_refused wrong a b listed run before) (as_bytes (bytes_record a b listed run)) before now

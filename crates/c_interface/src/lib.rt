@@ -8,20 +8,25 @@ ghost use Rattle.replies.specs.Choices.{yes};
 ghost use Rattle.duplex_metrics.specs.Metrics.{input};
 ghost use Rattle.molecule_strand.specs.Strand.{encoded_in, wrong_pattern};
 ghost use Rattle.molecule_errors.specs.Run.{run_in};
-ghost use Rattle.molecule_consensus.specs.Bytes.{seen as looked_at};
+ghost use Rattle.c_record.specs.Lent.{bytes_out, SameBytes};
 ghost use Rattle.c_record.specs.Outputs.{record_bytes};
 ghost use Rattle.c_metrics.specs.Bytes.{seen, MetricsEntry};
-ghost use Rattle.c_interface.specs.Entry.{told, strand_given, ConsensusBy, ConsensusEntry};
+ghost use Rattle.c_interface.specs.Entry.{told, strand_given, strand_told, told_by, ConsensusOf, ConsensusEntry};
 
 use c_consensus::duplex_consensus_bytes;
-use c_metrics::{CountsBytes, metrics_of_bytes};
+use c_metrics::metrics_of_bytes;
+use c_record::ByteOutputs;
 use duplex_kind::DuplexConsensus;
+use duplex_metrics::Counts;
 use duplex_reply::DuplexRecord;
-use molecule_strand::{EncodedStrand, annotation_of, seen_u8, wrong_pattern};
+use lists::only_if;
+use molecule_consensus::EncodedMolecule;
+use molecule_strand::{EncodedStrand, annotation_of, wrong_pattern};
 use refusals::{Refusal, refuse};
 
-// Whether a pattern is looked at: that of a strand that is there and annotated.
-pub fn told(present: u8, annotated: u8) -> bool
+// Whether a pattern is looked at: that of a strand that is there and annotated. Flags beside values are the C interface's, here and in
+// molecule_strand's annotation_of and wrong_pattern.
+fn told(present: u8, annotated: u8) -> bool
     ensures { result ≡ told present annotated }
 {
     (present != 0) & (annotated != 0)
@@ -29,7 +34,7 @@ pub fn told(present: u8, annotated: u8) -> bool
 
 // A strand as C gives it, as far as it is looked at: nothing of one that is not there, and evidence only with an annotation.
 #[tactic(auto, unfolding(lists::specs::Part::only_if))]
-pub fn strand_given<'a>(
+fn strand_given<'a>(
     present: u8,
     annotated: u8,
     pattern: u8,
@@ -41,7 +46,7 @@ pub fn strand_given<'a>(
         return None;
     }
     let annotation = annotation_of(annotated != 0, pattern);
-    let evidence = seen_u8(annotation.is_some(), s.evidence);
+    let evidence = only_if(annotation.is_some(), s.evidence);
     Some(EncodedStrand {
         annotation,
         evidence,
@@ -49,35 +54,41 @@ pub fn strand_given<'a>(
     })
 }
 
-// The combination, after row 13 for a pattern.
-// Lent outputs stay apart: the borrow checker has no rule for a struct of them that is passed on.
+// The same, or 13 where the pattern is looked at and stands for nothing.
+pub fn strand_told<'a>(
+    present: u8,
+    annotated: u8,
+    pattern: u8,
+    s: EncodedStrand<'a>,
+) -> Result<Option<EncodedStrand<'a>>, Refusal>
+    ensures { told_by result ≡ strand_told present annotated pattern s.entry.bases.now s.entry.quals.now s.entry.depths.now s.entry.errors.now s.entry.evidence.now }
+{
+    refuse(
+        wrong_pattern(told(present, annotated), pattern),
+        Refusal::Broken,
+    )?;
+    Ok(strand_given(present, annotated, pattern, s))
+}
+
+// The combination of two strands, each of which may be refused.
 fn consensus(
-    wrong: bool,
-    a: Option<EncodedStrand>,
-    b: Option<EncodedStrand>,
+    a: Result<Option<EncodedStrand>, Refusal>,
+    b: Result<Option<EncodedStrand>, Refusal>,
     run: Option<&[u8]>,
-    bases_out: &mut [u8],
-    quals_out: &mut [u8],
-    errors_out: &mut [u8],
-    a_evidence_out: &mut [u8],
-    b_evidence_out: &mut [u8],
+    out: &mut ByteOutputs<'_>,
 ) -> Result<Option<DuplexConsensus>, Refusal>
-    ensures { ConsensusBy wrong (looked_at (encoded_in a.entry)) (looked_at (encoded_in b.entry)) (is_some run.entry) (run_in run.entry)
-        (record_bytes bases_out.old quals_out.old errors_out.old a_evidence_out.old b_evidence_out.old)
-        (record_bytes bases_out.new quals_out.new errors_out.new a_evidence_out.new b_evidence_out.new)
+    ensures same_references { SameBytes out.old out.new }
+    ensures made { ConsensusOf (told_by a.entry) (told_by b.entry) (is_some run.entry) (run_in run.entry)
+        (bytes_out out.old)
+        (bytes_out out.new)
         result }
 {
-    refuse(wrong, Refusal::Broken)?;
-    duplex_consensus_bytes(
-        a,
-        b,
-        run,
-        bases_out,
-        quals_out,
-        errors_out,
-        a_evidence_out,
-        b_evidence_out,
-    )
+    let m = EncodedMolecule {
+        a: a?,
+        b: b?,
+        reads: run,
+    };
+    duplex_consensus_bytes(m, out)
 }
 
 // The duplex record of two strands, document 01's combination, as bytes. Of a strand that is not there nothing is looked at, and its
@@ -119,8 +130,6 @@ pub extern "C" fn gedrashiw_duplex_consensus(
         (record_bytes bases_out.new quals_out.new errors_out.new a_evidence_out.new b_evidence_out.new)
         result }
 {
-    let wrong = wrong_pattern(told(a_present, a_annotated), a_pattern)
-        | wrong_pattern(told(b_present, b_annotated), b_pattern);
     let a = EncodedStrand {
         annotation: None,
         bases: a_bases,
@@ -137,16 +146,18 @@ pub extern "C" fn gedrashiw_duplex_consensus(
         errors: b_errors,
         evidence: b_evidence,
     };
+    let mut out = ByteOutputs {
+        bases: bases_out,
+        quals: quals_out,
+        errors: errors_out,
+        a_evidence: a_evidence_out,
+        b_evidence: b_evidence_out,
+    };
     DuplexRecord::from(consensus(
-        wrong,
-        strand_given(a_present, a_annotated, a_pattern, a),
-        strand_given(b_present, b_annotated, b_pattern, b),
+        strand_told(a_present, a_annotated, a_pattern, a),
+        strand_told(b_present, b_annotated, b_pattern, b),
         (listed != 0).then_some(reads),
-        bases_out,
-        quals_out,
-        errors_out,
-        a_evidence_out,
-        b_evidence_out,
+        &mut out,
     ))
 }
 
@@ -166,15 +177,16 @@ pub extern "C" fn gedrashiw_metrics(
 ) -> u8
     ensures { MetricsEntry (seen (input a_depths.now a_errors.now (yes second) b_depths.now b_errors.now bases.now errors.now)) out.old out.new result }
 {
-    let a = CountsBytes {
+    let a = Counts {
         depths: a_depths,
         errors: a_errors,
     };
-    let b = CountsBytes {
+    let b = Counts {
         depths: b_depths,
         errors: b_errors,
     };
     let b = (second != 0).then_some(b);
+    // The numbers are those that C sees.
     match metrics_of_bytes(a, b, bases, errors, out) {
         Ok(()) => 0,
         Err(refusal) => refusal.number(),

@@ -26,14 +26,14 @@ use Rattle.refusals.specs.declared.Refusal.TheVariants.{Broken, TooLong, Ragged,
 use Rattle.refusals.specs.Refusal.{refused, number_of, number_or_0}
 use Rattle.refusals.specs.Outcome.{answer, refused_if}
 use Rattle.refusals.proofs.InOrder.{numbered_from_1}
-use Rattle.duplex_metrics.specs.Metrics.{Input, input, lengths, metrics_refused, metrics_faults, metrics_of, record_of}
+use Rattle.duplex_metrics.specs.Metrics.{Input, input, input_of, lengths, lengths_in, metrics_refused, metrics_faults, metrics_of, record_of}
 use Rattle.duplex_metrics.specs.declared.CountsLengths.{CountsLengths}
 use Rattle.duplex_metrics.specs.declared.MetricsLengths.{MetricsLengths}
 use Rattle.duplex_metrics.proofs.Few.{few}
 use Rattle.metrics_bits.specs.Bits.{metrics_words}
 use Rattle.metrics_bits.specs.declared.MetricsBits.{MetricsBits}
-use Rattle.c_metrics.specs.Bytes.{Narrow, MetricsAs, MetricsEntry, seen, bytes_given, byte_counts, halves, second_halves, decoded, odd_bytes, odd_counts, entry_refused, record_words}
-use Rattle.c_metrics.specs.declared.CountsBytes.{CountsBytes}
+use Rattle.c_metrics.specs.Bytes.{Narrow, MetricsAs, MetricsEntry, seen, byte_counts, halves, second_halves, decoded, odd_bytes, odd_counts, entry_refused, record_words}
+use Rattle.duplex_metrics.specs.declared.Counts.{Counts}
 
 abbrev or_else : Option Refusal → Option Refusal → Option Refusal
 or_else None later = later
@@ -63,35 +63,35 @@ entry_at x before o m s e f g =
     ∙ ap (λ (r : Option Refusal). cond o (Some Broken) (or_else r (short_row (ltb (length before) 40)))) f
     ∙ ap (λ (b : Bool). cond o (Some Broken) (or_else m (short_row b))) g
 
-module _ (a : CountsBytes) (bases errors : List ℕ) where
-  abbrev lengths_by : Option CountsBytes → MetricsLengths
-  lengths_by b = record { a = halves (byte_counts (Some a)); b = second_halves b; bases = length bases; errors = length errors / 2 }
+module _ (a : Counts ℕ) (bases errors : List ℕ) where
+  abbrev lengths_by : Option (Counts ℕ) → MetricsLengths
+  lengths_by b = record { a = halves (lengths_in a); b = second_halves b; bases = length bases; errors = length errors / 2 }
 
   lengths_given :
-      (b : Option CountsBytes)
-      → lengths_by b ≡ lengths (decoded (bytes_given a b bases errors))
+      (b : Option (Counts ℕ))
+      → lengths_by b ≡ lengths (decoded (input_of a b bases errors))
   lengths_given None = simp length_numbers
   lengths_given (Some b) = simp length_numbers
 
   pub told_given :
-      (b : Option CountsBytes) {n : CountsLengths} {m : Option CountsLengths} {told : Result (Unit {0}) Refusal}
-      → n ≡ halves (byte_counts (Some a))
+      (b : Option (Counts ℕ)) {n : CountsLengths} {m : Option CountsLengths} {told : Result (Unit {0}) Refusal}
+      → n ≡ halves (lengths_in a)
       → m ≡ second_halves b
       → told ≡ answer (refused (metrics_faults (record { a = n; b = m; bases = length bases; errors = length errors / 2 }))) tt
-      → told ≡ answer (metrics_refused (decoded (bytes_given a b bases errors))) tt
+      → told ≡ answer (metrics_refused (decoded (input_of a b bases errors))) tt
   told_given b n m e =
       e ∙ rw (n, m) (ap (λ (l : MetricsLengths). answer (refused (metrics_faults l)) tt) (lengths_given b))
 
-  pub odd_given : (b : Option CountsBytes) → odd_bytes (byte_counts (Some a)) (byte_counts b) (length errors) ≡ odd_counts (bytes_given a b bases errors)
+  pub odd_given : (b : Option (Counts ℕ)) → odd_bytes (lengths_in a) (byte_counts b) (length errors) ≡ odd_counts (input_of a b bases errors)
   odd_given None = refl
   odd_given (Some b) = refl
 
-  pub narrow : (b : Option CountsBytes) → metrics_refused (decoded (bytes_given a b bases errors)) ≡ None → Narrow (bytes_given a b bases errors)
+  pub narrow : (b : Option (Counts ℕ)) → metrics_refused (decoded (input_of a b bases errors)) ≡ None → Narrow (input_of a b bases errors)
   narrow b z = go b z
     where
-      go : (b : Option CountsBytes) → metrics_refused (decoded (bytes_given a b bases errors)) ≡ None → Narrow (bytes_given a b bases errors)
+      go : (b : Option (Counts ℕ)) → metrics_refused (decoded (input_of a b bases errors)) ≡ None → Narrow (input_of a b bases errors)
       go None z =
-          let s = few (lengths (decoded (bytes_given a None bases errors))) z in
+          let s = few (lengths (decoded (input_of a None bases errors))) z in
           record {
             a = omega (arith, s.a.depths, length_numbers 2 a.depths.now);
             a_errors = omega (arith, s.a.errors, length_numbers 2 a.errors.now);
@@ -100,7 +100,7 @@ module _ (a : CountsBytes) (bases errors : List ℕ) where
             errors = omega (arith, s.errors, length_numbers 2 errors);
           }
       go (Some b) z =
-          let s = few (lengths (decoded (bytes_given a (Some b) bases errors))) z in
+          let s = few (lengths (decoded (input_of a (Some b) bases errors))) z in
           record {
             a = omega (arith, s.a.depths, length_numbers 2 a.depths.now);
             a_errors = omega (arith, s.a.errors, length_numbers 2 a.errors.now);
@@ -111,19 +111,19 @@ module _ (a : CountsBytes) (bases errors : List ℕ) where
 
 -- An absent second strand's bytes are not looked at.
 second_seen :
-    (a b : CountsBytes) (second : Bool) (bases errors : List ℕ)
-    → bytes_given a (then_some second b) bases errors ≡ seen (input a.depths.now a.errors.now second b.depths.now b.errors.now bases errors)
+    (a b : Counts ℕ) (second : Bool) (bases errors : List ℕ)
+    → input_of a (then_some second b) bases errors ≡ seen (input a.depths.now a.errors.now second b.depths.now b.errors.now bases errors)
 unfolding only_if
 second_seen a b true bases errors = refl
 second_seen a b false bases errors = refl
 
 pub seen_as :
-    (a b : CountsBytes) (second : Bool) (bases errors before : List ℕ) {given : Option CountsBytes} {now : List ℕ} {r : Result (Unit {0}) Refusal}
+    (a b : Counts ℕ) (second : Bool) (bases errors before : List ℕ) {given : Option (Counts ℕ)} {now : List ℕ} {r : Result (Unit {0}) Refusal}
     → given ≡ then_some second b
-    → MetricsAs (bytes_given a given bases errors) before now r
+    → MetricsAs (input_of a given bases errors) before now r
     → MetricsAs (seen (input a.depths.now a.errors.now second b.depths.now b.errors.now bases errors)) before now r
 seen_as a b second bases errors before {given} {now} {r} e m =
-    subst (λ (x : Input). MetricsAs x before now r) (ap (λ (o : Option CountsBytes). bytes_given a o bases errors) e ∙ second_seen a b second bases errors) m
+    subst (λ (x : Input). MetricsAs x before now r) (ap (λ (o : Option (Counts ℕ)). input_of a o bases errors) e ∙ second_seen a b second bases errors) m
 
 pub not_met : (met : Bool) (row : Refusal) {u : Unit {0}} → refused_if met row ≡ Ok u → met ≡ false
 not_met true row e = absurd cc

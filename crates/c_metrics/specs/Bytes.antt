@@ -1,18 +1,18 @@
 -- The metrics of a record from bytes to bytes, document 01's form for the viewer: the library's call `duplex_metrics` on the numbers
 -- that the bytes stand for.
-use Rattle.std.specs.Prelude.{ℕ, ◌/◌, ◌≤◌, ◌≡◌, Bool, true, false, Option, Some, None, Result, Ok, Err, List, [], ◌∷◌, ◌++◌, length}
+use Rattle.std.specs.Prelude.{ℕ, ◌/◌, ◌≤◌, ◌≡◌, Bool, Option, Some, None, Result, Ok, Err, List, [], ◌∷◌, ◌++◌, length}
 use Rattle.lists.specs.Part.{only_if}
 use Rattle.byte_numbers.specs.Bytes.{words16, odd_count, bytes32}
 use Rattle.refusals.specs.declared.Refusal.{Refusal}
 use Rattle.refusals.specs.declared.Refusal.TheVariants.{Broken, OutputTooShort}
 use Rattle.refusals.specs.Refusal.{Fault, ◌if◌, any, too_short, refused, number_or_0}
 use Rattle.refusals.specs.Outcome.{answer, after}
-use Rattle.duplex_metrics.specs.Metrics.{Input, input, counts_lengths, lengths, metrics_faults, metrics_of}
+use Rattle.duplex_metrics.specs.Metrics.{Input, input, counts_lengths, lengths, lengths_in, metrics_faults, metrics_of}
+use Rattle.duplex_metrics.specs.declared.Counts.{Counts}
 use Rattle.duplex_metrics.specs.declared.CountsLengths.{CountsLengths}
 use Rattle.duplex_metrics.specs.declared.MetricsLengths.{MetricsLengths}
 use Rattle.metrics_bits.specs.Bits.{metrics_words}
 use Rattle.metrics_bits.specs.declared.MetricsBits.{MetricsBits}
-use Rattle.c_metrics.specs.declared.CountsBytes.{CountsBytes}
 
 -- The arrays as bytes, of which an absent second strand's are not looked at.
 abbrev pub seen : Input → Input
@@ -72,21 +72,17 @@ pub record MetricsEntry (x : Input) (before after_call : List ℕ) (r : ℕ) : T
 
 -- For the code, which has a strand's two arrays as one value.
 
-abbrev pub bytes_given : CountsBytes → Option CountsBytes → List ℕ → List ℕ → Input
-bytes_given a None bases errors = input a.depths.now a.errors.now false [] [] bases errors
-bytes_given a (Some b) bases errors = input a.depths.now a.errors.now true b.depths.now b.errors.now bases errors
-
-abbrev pub byte_counts : Option CountsBytes → CountsLengths
-byte_counts None = counts_lengths [] []
-byte_counts (Some s) = counts_lengths s.depths.now s.errors.now
+abbrev pub byte_counts : Option (Counts ℕ) → CountsLengths
+byte_counts None = record { depths = 0; errors = 0 }
+byte_counts (Some s) = lengths_in s
 
 -- How many numbers so many bytes are.
 abbrev pub halves : CountsLengths → CountsLengths
 halves n = record { depths = n.depths / 2; errors = n.errors / 2 }
 
-abbrev pub second_halves : Option CountsBytes → Option CountsLengths
+abbrev pub second_halves : Option (Counts ℕ) → Option CountsLengths
 second_halves None = None
-second_halves (Some s) = Some (halves (counts_lengths s.depths.now s.errors.now))
+second_halves (Some s) = Some (halves (lengths_in s))
 
 -- Bytes of at most 1,024 numbers an array.
 pub record Narrow (x : Input) : Type 0 where

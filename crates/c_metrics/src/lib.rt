@@ -6,20 +6,13 @@
 ghost use Rattle.std.specs.Prelude.{◌≡◌, ◌≤◌, length};
 ghost use Rattle.lists.specs.Output.{put};
 ghost use Rattle.byte_numbers.specs.Bytes.{odd_count, bytes32};
-ghost use Rattle.duplex_metrics.specs.Metrics.{metrics_of};
+ghost use Rattle.duplex_metrics.specs.Metrics.{input_of, metrics_of};
 ghost use Rattle.metrics_bits.specs.Bits.{metrics_words};
-ghost use Rattle.c_metrics.specs.Bytes.{Narrow, MetricsAs, bytes_given, byte_counts, halves, second_halves, decoded, odd_bytes, record_words};
+ghost use Rattle.c_metrics.specs.Bytes.{Narrow, MetricsAs, byte_counts, halves, second_halves, decoded, odd_bytes, record_words};
 
 use duplex_metrics::{Counts, CountsLengths, MetricsLengths, metrics_refusal};
 use metrics_bits::{MetricsBits, metrics_bits};
 use refusals::{Refusal, refuse};
-
-// A strand's depths and errors as bytes.
-#[derive(Clone, Copy)]
-pub struct CountsBytes<'a> {
-    pub depths: &'a [u8],
-    pub errors: &'a [u8],
-}
 
 // The bytes of a metrics record: ten numbers of four bytes.
 pub const METRICS_BYTES: usize = 40;
@@ -34,13 +27,13 @@ fn write_record(r: MetricsBits, out: &mut [u8])
 
 // The library's call on the decoded numbers.
 fn decoded_metrics(
-    a: CountsBytes,
-    b: Option<CountsBytes>,
+    a: Counts<u8>,
+    b: Option<Counts<u8>>,
     bases: &[u8],
     errors: &[u8],
 ) -> Result<MetricsBits, Refusal>
-    requires { Narrow (bytes_given a b bases.now errors.now) }
-    ensures { result ≡ metrics_words (metrics_of (decoded (bytes_given a.entry b.entry bases.now errors.now))) }
+    requires { Narrow (input_of a b bases.now errors.now) }
+    ensures { result ≡ metrics_words (metrics_of (decoded (input_of a.entry b.entry bases.now errors.now))) }
 {
     // No heap: arrays of the most that is looked at.
     let mut a_depths = [0; 1024];
@@ -56,6 +49,7 @@ fn decoded_metrics(
         errors: &a_errors[0..a.errors.len() / 2],
     };
     let own = &own[0..errors.len() / 2];
+    // No `map`: its closure would hand out slices of the arrays that it fills.
     match b {
         Some(b) => {
             byte_numbers::read(b.depths, &mut b_depths);
@@ -77,19 +71,14 @@ fn odd(n: usize) -> bool
 }
 
 // How many bytes a strand's arrays are; none of an absent strand.
-fn byte_counts(s: Option<CountsBytes>) -> CountsLengths
+fn byte_counts(s: Option<Counts<u8>>) -> CountsLengths
     ensures { result ≡ byte_counts s.entry }
 {
-    match s {
-        Some(s) => CountsLengths {
-            depths: s.depths.len(),
-            errors: s.errors.len(),
-        },
-        None => CountsLengths {
-            depths: 0,
-            errors: 0,
-        },
-    }
+    let none = CountsLengths {
+        depths: 0,
+        errors: 0,
+    };
+    s.map_or(none, |s| s.lengths())
 }
 
 // Row 13's condition, for byte counts.
@@ -110,27 +99,24 @@ fn halved(n: CountsLengths) -> CountsLengths
 }
 
 // The same of a strand that may be absent.
-fn second_halved(s: Option<CountsBytes>) -> Option<CountsLengths>
+fn second_halved(s: Option<Counts<u8>>) -> Option<CountsLengths>
     ensures { result ≡ second_halves s.entry }
 {
-    match s {
-        Some(_) => Some(halved(byte_counts(s))),
-        None => None,
-    }
+    s.map(|s| halved(s.lengths()))
 }
 
 // The metrics of a record, document 01's "Metrics", as 40 bytes: aD, aM, aE, bD, bM, bE, cD, cM, cE, nc. Depths and errors are
 // 16-bit numbers, those written are 32-bit numbers, and a rate is its bits. Refuses by 13, 7, 8, 12.
 pub fn metrics_of_bytes(
-    a: CountsBytes,
-    b: Option<CountsBytes>,
+    a: Counts<u8>,
+    b: Option<Counts<u8>>,
     bases: &[u8],
     errors: &[u8],
     out: &mut [u8],
 ) -> Result<(), Refusal>
-    ensures { MetricsAs (bytes_given a.entry b.entry bases.now errors.now) out.old out.new result }
+    ensures { MetricsAs (input_of a.entry b.entry bases.now errors.now) out.old out.new result }
 {
-    let a_counts = byte_counts(Some(a));
+    let a_counts = a.lengths();
     let b_counts = byte_counts(b);
     refuse(odd_bytes(a_counts, b_counts, errors.len()), Refusal::Broken)?;
     metrics_refusal(MetricsLengths {

@@ -15,9 +15,8 @@ use Rattle.lists.specs.Part.{only_if}
 use Rattle.refusals.specs.declared.Refusal.{Refusal}
 use Rattle.refusals.specs.declared.Refusal.TheVariants.{Broken, TooLong, Ragged, TooManyReads, PartOutside}
 use Rattle.refusals.specs.Refusal.{◌if◌, refused, too_many}
-use Rattle.refusals.specs.Outcome.{answer, refused_if}
+use Rattle.refusals.specs.Outcome.{answer}
 use Rattle.refusals.proofs.Condition.{neither}
-use Rattle.methylation.specs.Methylation.{is_annotated}
 use Rattle.methylation.specs.declared.ConversionPattern.{ConversionPattern}
 use Rattle.byte_numbers.specs.Bytes.{number_of, words16, odd_count}
 use Rattle.byte_numbers.proofs.Groups.{length_by_group, read_front}
@@ -30,15 +29,16 @@ use Rattle.molecule_consensus.specs.Bytes.{seen, misfit}
 use Rattle.molecule_consensus.proofs.Few.{not_long}
 use Rattle.duplex_kind.specs.Kind.{Given, given, long, uneven, kind_of, kind_given}
 use Rattle.duplex_kind.specs.declared.DuplexConsensus.{DuplexConsensus}
-use Rattle.duplex_reason.specs.Record.{reason_told}
+use Rattle.duplex_reason.specs.Record.{reason_told, shown_at}
 use Rattle.duplex_reason.specs.declared.NoCallReason.{NoCallReason}
 use Rattle.duplex_reason.specs.declared.Shown.{Shown}
-use Rattle.c_reason.specs.Parts.{given_by, kind_by, reason_by}
+use Rattle.rust_reason.specs.Reply.{entry_reason}
+use Rattle.c_reason.specs.Parts.{given_by, kind_by, reason_given, reason_by}
 use Rattle.c_reason.specs.Reason.{bytes_reason}
 
 -- What is given of a strand, by its byte counts and its depths.
 abbrev given_bytes : StrandBytes → Given
-given_bytes s = record { present = s.present; annotation = s.annotation; lengths = numbers_in s; depths = words16 s.depths }
+given_bytes s = record { present = s.present; lengths = numbers_in s; depths = words16 s.depths }
 
 same_given : (s : StrandBytes) → given_bytes s ≡ given (strand_of s)
 unfolding strand_of
@@ -48,7 +48,7 @@ same_given s =
 
 few : (s : Option EncodedStrand) → long_in (encoded_in s) ≡ false → length (encoded_in s).depths / 2 ≤ 1024
 few None h = omega arith
-few (Some s) h = (not_long (is_annotated s.annotation) (numbers_in (encoded_in (Some s))) h).0.1.1.0
+few (Some s) h = (not_long (numbers_in (encoded_in (Some s))) h).0.1.1.0
 
 -- Depths that fit are read as they are.
 read :
@@ -60,7 +60,7 @@ read :
     → g ≡ given (strand_of s)
 read s few e h g =
     let whole : take (length s.depths / 2) _ ≡ words16 s.depths = read_front 2 number_of s.depths zeros (omega (arith, few, length-replicate {A = ℕ} 1024 0)) (rw e at h) in
-    g ∙ ap (λ (l : List ℕ). record { present = s.present; annotation = s.annotation; lengths = numbers_in s; depths = l }) whole ∙ same_given s
+    g ∙ ap (λ (l : List ℕ). record { present = s.present; lengths = numbers_in s; depths = l }) whole ∙ same_given s
 
 -- The early rows, and the others behind them.
 passed : (p l : Bool) {u : Unit {0}} → answer {A = Unit {0}} (refused ((Broken if p) ∷ (TooLong if l) ∷ [])) tt ≡ Ok u → (p ≡ false) × (l ≡ false)
@@ -101,18 +101,13 @@ kind_told a b early e f x y g h told =
     let given_b = read (encoded_in b) (few b short_b) f y h in
     rw whole (rw (given_a, given_b) at told)
 
--- Where no pattern is wrong, and the kind is refused.
-pub reason_refused : (wrong : Bool) (a b : StrandBytes) (i : ℕ) {e : Refusal} {u : Unit {0}} → refused_if wrong Broken ≡ Ok u → kind_by a b ≡ Err e → Err e ≡ reason_by wrong a b i
-reason_refused true a b i f h = absurd cc
-reason_refused false a b i f h = go (misfit_in a || misfit_in b) _ _ _ h
+-- What is said, by the kind.
+pub by_kind : (a b : StrandBytes) (i : ℕ) → reason_told (kind_by a b) (shown_at (strand_of a) i) (shown_at (strand_of b) i) i ≡ reason_given a b i
+by_kind a b i = go (misfit_in a || misfit_in b) _ _ _
   where
-    go :
-        (m : Bool) (made : Result (Option DuplexConsensus) Refusal) (s t : Shown) {e : Refusal}
-        → cond m (Err Broken) made ≡ Err e
-        → Err e ≡ cond m (Err Broken) (reason_told made s t i)
-    go true made s t h = cc
-    go false (Ok made) s t h = absurd cc
-    go false (Err row) s t h = cc
+    go : (m : Bool) (made : Result (Option DuplexConsensus) Refusal) (s t : Shown) → reason_told (cond m (Err Broken) made) s t i ≡ cond m (Err Broken) (reason_told made s t i)
+    go true made s t = refl
+    go false made s t = refl
 
 or_more : (x y z : Bool) → ((x || y) || z) ≡ (x || (y || z))
 or_more true y z = refl
@@ -132,17 +127,24 @@ or_none true y = refl
 or_none false true = refl
 or_none false false = refl
 
--- The patterns' tests p and q, of which the code has s and t, and the strands a and b as far as they are looked at.
+by_patterns :
+    (p q : Bool) (a b : StrandBytes) (i : ℕ)
+    → reason_by (cond p (Err Broken) (Ok a)) (cond q (Err Broken) (Ok b)) i
+    ≡ entry_reason ((p || q) || (misfit_in a || misfit_in b)) (strand_of a) (strand_of b) i
+by_patterns true q a b i = refl
+by_patterns false true a b i = refl
+by_patterns false false a b i = refl
+
+-- The patterns' tests p and q, and the strands a and b as far as they are looked at.
 pub entry_told :
-    (p q : Bool) (a b : StrandBytes) (i : ℕ) {s t : Bool} {x y : StrandBytes} {r : Result NoCallReason Refusal}
-    → s ≡ p
-    → t ≡ q
-    → x ≡ seen a
-    → y ≡ seen b
-    → r ≡ reason_by (s || t) x y i
+    (p q : Bool) (a b : StrandBytes) (i : ℕ) {x y : Result StrandBytes Refusal} {r : Result NoCallReason Refusal}
+    → x ≡ cond p (Err Broken) (Ok (seen a))
+    → y ≡ cond q (Err Broken) (Ok (seen b))
+    → r ≡ reason_by x y i
     → r ≡ bytes_reason (p || q) (seen a) (seen b) i
-entry_told p q a b i {r = r} e f g h told =
-    let by_counts : r ≡ reason_by (p || q) (seen a) (seen b) i = rw (e, f, g, h) at told in
+entry_told p q a b i {r = r} e f told =
+    let told_of : r ≡ reason_by (cond p (Err Broken) (Ok (seen a))) (cond q (Err Broken) (Ok (seen b))) i = rw (e, f) at told in
+    let by_counts = told_of ∙ by_patterns p q (seen a) (seen b) i in
     let first = same_misfit a.present a.annotation a.bases a.quals a.depths a.errors a.evidence in
     let second = same_misfit b.present b.annotation b.bases b.quals b.depths b.errors b.evidence in
     rw (first, second, or_none (misfit (seen a)) (misfit (seen b))) at by_counts

@@ -1,7 +1,7 @@
 // Why a position of a record shows N, document 02's #101, as an entry point for C programs: strands as bytes, and the answer as numbers. An
 // array of wider numbers is passed as its bytes, low byte first. The reasons are duplex_reason's and their numbers rust_reason's; this
 // crate owns what of the bytes a position needs. Row 13 is stated by the definitions of molecule_consensus, and what of a strand is looked
-// at is c_interface's, as those of `gedrashiw_duplex_consensus`. Uses lists, refusals, methylation, vanilla_caller, byte_numbers,
+// at is c_interface's, as those of `gedrashiw_duplex_consensus`. Uses lists, refusals, byte_numbers,
 // molecule_evidence, molecule_strand, duplex_kind, c_interface, duplex_reason and rust_reason.
 #![tactic(auto)]
 
@@ -11,56 +11,34 @@ ghost use Rattle.molecule_strand.specs.Strand.{encoded_in, strand_of, wrong_patt
 ghost use Rattle.duplex_kind.specs.Kind.{given_in};
 ghost use Rattle.duplex_reason.specs.Record.{shown_at};
 ghost use Rattle.rust_reason.specs.Reply.{reason_for};
-ghost use Rattle.c_interface.specs.Entry.{told, strand_given};
+ghost use Rattle.c_interface.specs.Entry.{told, strand_given, told_by};
 ghost use Rattle.c_reason.specs.Reason.{bytes_reason};
-ghost use Rattle.c_reason.specs.Parts.{given_by, kind_by, reason_by};
+ghost use Rattle.c_reason.specs.Parts.{given_by, kind_by, reason_given, reason_by};
 
-use c_interface::{strand_given, told};
+use c_interface::strand_told;
 use duplex_kind::{DuplexConsensus, GivenStrand, record_kind};
 use duplex_reason::{NoCallReason, Shown, reason_in};
 use lists::{front, get_or};
-use methylation::EvidenceLengths;
 use molecule_evidence::POSITION_BYTES;
-use molecule_strand::{EncodedStrand, early_refusal, wrong_pattern};
-use refusals::{Refusal, refuse};
+use molecule_strand::{EncodedStrand, early_refusal};
+use refusals::Refusal;
 use rust_reason::Reason;
-use vanilla_caller::Lengths;
 
 // What is given of a strand, whose depths were read to the front of an array.
 fn given_by<'a>(s: Option<EncodedStrand>, depths: &'a [u16]) -> Option<GivenStrand<'a>>
     ensures { given_in result ≡ given_by (encoded_in s.entry) depths.now }
 {
-    match s {
-        Some(s) => {
-            let places = s.evidence.len() / POSITION_BYTES;
-            Some(GivenStrand {
-                annotation: s.annotation,
-                lengths: Lengths {
-                    bases: s.bases.len(),
-                    quals: s.quals.len(),
-                    depths: s.depths.len() / 2,
-                    errors: s.errors.len() / 2,
-                    evidence: EvidenceLengths {
-                        marks: places,
-                        unconverted: places,
-                        converted: places,
-                    },
-                },
-                depths: front(depths, s.depths.len() / 2),
-            })
-        }
-        None => None,
-    }
+    s.map(|s| GivenStrand {
+        lengths: s.lengths(),
+        depths: front(depths, s.depths.len() / 2),
+    })
 }
 
 // A strand's bytes of depths, none of an absent one.
 fn depths_of<'a>(s: Option<EncodedStrand<'a>>) -> &'a [u8]
     ensures { result.now ≡ (encoded_in s.entry).depths }
 {
-    match s {
-        Some(s) => s.depths,
-        None => &[],
-    }
+    s.map_or(&[], |s| s.depths)
 }
 
 // The kind of the record that two strands make, for which of their numbers the depths alone are read. Refuses by 13, 7, 8.
@@ -94,36 +72,45 @@ fn mark_at(evidence: &[u8], position: usize) -> u8
 fn shown_at(s: Option<EncodedStrand>, position: usize) -> Shown
     ensures { result ≡ shown_at (strand_of (encoded_in s.entry)) position }
 {
-    match s {
-        Some(s) => Shown {
+    let nothing = Shown {
+        annotation: None,
+        base: 0,
+        qual: 0,
+        mark: 0,
+    };
+    s.map_or(
+        nothing,
+        |s| Shown {
             annotation: s.annotation,
             base: get_or(s.bases, position, 0),
             qual: get_or(s.quals, position, 0),
             mark: mark_at(s.evidence, position),
         },
-        None => Shown {
-            annotation: None,
-            base: 0,
-            qual: 0,
-            mark: 0,
-        },
-    }
+    )
 }
 
-// What is said of a position, after row 13 for a pattern.
-fn reason_by(
-    wrong: bool,
+// What is said of a position between two strands.
+fn reason_given(
     a: Option<EncodedStrand>,
     b: Option<EncodedStrand>,
     position: usize,
 ) -> Result<NoCallReason, Refusal>
-    ensures { result ≡ reason_by wrong (encoded_in a.entry) (encoded_in b.entry) position }
+    ensures { result ≡ reason_given (encoded_in a.entry) (encoded_in b.entry) position }
 {
-    refuse(wrong, Refusal::Broken)?;
-    let made = kind_by(a, b)?;
     let at_a = shown_at(a, position);
     let at_b = shown_at(b, position);
-    Ok(reason_in(made, at_a, at_b, position))
+    reason_in(kind_by(a, b), at_a, at_b, position)
+}
+
+// The same, of strands each of which may be refused.
+fn reason_by(
+    a: Result<Option<EncodedStrand>, Refusal>,
+    b: Result<Option<EncodedStrand>, Refusal>,
+    position: usize,
+) -> Result<NoCallReason, Refusal>
+    ensures { result ≡ reason_by (told_by a.entry) (told_by b.entry) position }
+{
+    reason_given(a?, b?, position)
 }
 
 // Why a position of the record that two strands make shows N: `no_call_reason` over bytes. Depths and errors are two bytes a position,
@@ -156,8 +143,6 @@ pub extern "C" fn gedrashiw_no_call_reason(
         (strand_given b_present b_annotated b_pattern b_bases.now b_quals.now b_depths.now b_errors.now b_evidence.now)
         position) }
 {
-    let wrong = wrong_pattern(told(a_present, a_annotated), a_pattern)
-        | wrong_pattern(told(b_present, b_annotated), b_pattern);
     let a = EncodedStrand {
         annotation: None,
         bases: a_bases,
@@ -174,7 +159,7 @@ pub extern "C" fn gedrashiw_no_call_reason(
         errors: b_errors,
         evidence: b_evidence,
     };
-    let a = strand_given(a_present, a_annotated, a_pattern, a);
-    let b = strand_given(b_present, b_annotated, b_pattern, b);
-    Reason::from(reason_by(wrong, a, b, position))
+    let a = strand_told(a_present, a_annotated, a_pattern, a);
+    let b = strand_told(b_present, b_annotated, b_pattern, b);
+    Reason::from(reason_by(a, b, position))
 }

@@ -1,5 +1,4 @@
 -- Laws of a record as bytes.
---     same_evidence                 a strand's evidence, by the fronts that the code has
 --     turned_down, passed_on        what is promised of a call, by its test and what was written
 -- Assumes nothing.
 use mathlib.Core.Path.{◌≡◌, refl, sym, ap, ◌∙◌}
@@ -13,59 +12,52 @@ use Rattle.lists.specs.Output.{put}
 use Rattle.refusals.specs.declared.Refusal.TheVariants.{OutputTooShort}
 use Rattle.refusals.specs.declared.Refusal.{Refusal}
 use Rattle.refusals.specs.Outcome.{refused_if}
-use Rattle.std.proofs.Common.{Result, Ok, Err}
+use Rattle.std.proofs.Common.{Option, Some, None, Result, Ok, Err}
 use Rattle.methylation.specs.Arrays.{evidence_places}
+use Rattle.methylation.specs.Methylation.{is_annotated}
+use Rattle.methylation.specs.declared.ConversionPattern.{ConversionPattern}
+use Rattle.duplex_kind.specs.declared.DuplexConsensus.{DuplexConsensus}
 use Rattle.byte_numbers.specs.Bytes.{number_of, bytes16}
 use Rattle.byte_numbers.proofs.Groups.{length_by_group}
 use Rattle.molecule_evidence.specs.Evidence.{mark_in, count_in, evidence_bytes}
 use Rattle.duplex_outputs.specs.Outputs.{RecordArrays, record_lengths, record_too_short}
 use Rattle.duplex_outputs.specs.declared.RecordLengths.{RecordLengths}
 use Rattle.duplex_outputs.proofs.Outputs.{roomy}
-use Rattle.c_record.specs.Outputs.{RecordBytes, as_arrays, short_for, fronts, WrittenAs, positions_in}
+use Rattle.c_record.specs.Outputs.{RecordBytes, as_arrays, short_for, fronts, Writes, positions_in}
 use Rattle.c_record.specs.declared.Written.{Written}
 
--- Evidence of m, u and v, by the fronts m', u' and v' that the code has of them.
-pub same_evidence :
-    (m u v out : List ℕ) {places k : ℕ} {m' u' v' now : List ℕ}
-    → k ≡ places
-    → m' ≡ take k m
-    → u' ≡ take k u
-    → v' ≡ take k v
-    → now ≡ put (evidence_bytes (take (length out / 9) m') u' v') out
-    → now ≡ put (evidence_bytes (take (length out / 9) (take places m)) (take places u) (take places v)) out
-same_evidence m u v out e f g h x = rw (← e, ← f, ← g, ← h) x
-
 -- How many positions the outputs hold.
-abbrev held : RecordBytes → RecordLengths
-held out = positions_in (length out.bases) (length out.quals) (length out.errors) (length out.evidence_a) (length out.evidence_b)
+abbrev held : Written → RecordBytes → RecordLengths
+held w out = positions_in w (length out.bases) (length out.quals) (length out.errors) (length out.evidence_a) (length out.evidence_b)
 
-same_held : (out : RecordBytes) → record_lengths (as_arrays out) ≡ held out
+same_held : (w : Written) (out : RecordBytes) → record_lengths w.first w.second (as_arrays out) ≡ held w out
 unfolding as_arrays positions_in
-same_held out =
+same_held w out =
     rw
     (length_by_group 2 number_of out.errors, length_by_group 9 mark_in out.evidence_a, length_by_group 9 (count_in 1) out.evidence_a, length_by_group 9 (count_in 5) out.evidence_a, length_by_group 9 mark_in out.evidence_b, length_by_group 9 (count_in 1) out.evidence_b, length_by_group 9 (count_in 5) out.evidence_b)
 
 -- Outputs that row 12 does not refuse have room for what goes there.
-record Room (w : Written) (out : RecordLengths) : Type 0 where
-  bases : w.positions ≤ out.bases
-  quals : w.positions ≤ out.quals
-  errors : w.positions ≤ out.errors
-  evidence_a : evidence_places w.first w.positions ≤ out.a.marks
-  evidence_b : evidence_places w.second w.positions ≤ out.b.marks
+record Room (w : Written) (out : RecordBytes) : Type 0 where
+  bases : w.positions ≤ length out.bases
+  quals : w.positions ≤ length out.quals
+  errors : w.positions ≤ length out.errors / 2
+  evidence_a : evidence_places w.first w.positions ≤ length out.evidence_a / 9
+  evidence_b : evidence_places w.second w.positions ≤ length out.evidence_b / 9
 
-places_fit : (there : Bool) {n k : ℕ} → (there ≡ true → n ≤ k) → evidence_places there n ≤ k
-places_fit true h = h refl
-places_fit false h = omega arith
+places_fit : (annotation : Option ConversionPattern) {n k m : ℕ} → m ≡ k → (is_annotated annotation ≡ true → n ≤ m) → evidence_places annotation n ≤ k
+places_fit None e h = omega arith
+places_fit (Some pattern) e h = rw e at (h refl)
 
-room_for : (w : Written) (out : RecordLengths) → record_too_short w.positions w.first w.second out ≡ false → Room w out
+room_for : (w : Written) (out : RecordBytes) → short_for w (as_arrays out) ≡ false → Room w out
+unfolding as_arrays
 room_for w out h =
-    let r = roomy w.positions w.first w.second out h in
+    let r = roomy w.positions w.first w.second (as_arrays out) h in
     record {
       bases = r.own.0;
       quals = r.own.1.0;
-      errors = r.own.1.1.0;
-      evidence_a = places_fit w.first (λ e. (r.a e).0);
-      evidence_b = places_fit w.second (λ e. (r.b e).0);
+      errors = rw (length_by_group 2 number_of out.errors) at r.own.1.1.0;
+      evidence_a = places_fit w.first (length_by_group 9 mark_in out.evidence_a) (λ e. (r.a e).0);
+      evidence_b = places_fit w.second (length_by_group 9 mark_in out.evidence_b) (λ e. (r.b e).0);
     }
 
 -- What was written, as far as there was room.
@@ -83,17 +75,17 @@ all_of : (n : ℕ) (xs : List ℕ) {k : ℕ} → n ≤ k → take k (take n xs) 
 all_of n xs {k} h = take_all k (take n xs) (omega (arith, length-take n xs))
 
 -- What the code tests is row 12's condition.
-short_is : (w : Written) (before : RecordBytes) → record_too_short w.positions w.first w.second (held before) ≡ short_for w (as_arrays before)
-short_is w before = ap (λ (l : RecordLengths). record_too_short w.positions w.first w.second l) (sym (same_held before))
+short_is : (w : Written) (before : RecordBytes) → record_too_short w.positions (held w before) ≡ short_for w (as_arrays before)
+short_is w before = ap (λ (l : RecordLengths). record_too_short w.positions l) (sym (same_held w before))
 
-module _ (w : Written) (arrays : RecordArrays) (before : RecordBytes) where
+module _ (w : Written) (made : Option DuplexConsensus) (arrays : RecordArrays) (before : RecordBytes) where
   abbrev code_short : Bool
-  code_short = record_too_short w.positions w.first w.second (held before)
+  code_short = record_too_short w.positions (held w before)
 
-  pub turned_down : {refusal : Refusal} → refused_if code_short OutputTooShort ≡ Err refusal → WrittenAs w arrays before before (Err refusal)
+  pub turned_down : {refusal : Refusal} → refused_if code_short OutputTooShort ≡ Err refusal → Writes w made arrays before before (Err refusal)
   turned_down {refusal} e = go code_short e (sym (short_is w before))
     where
-      go : (b : Bool) → refused_if b OutputTooShort ≡ Err refusal → short_for w (as_arrays before) ≡ b → WrittenAs w arrays before before (Err refusal)
+      go : (b : Bool) → refused_if b OutputTooShort ≡ Err refusal → short_for w (as_arrays before) ≡ b → Writes w made arrays before before (Err refusal)
       go true e s =
           let is : refusal ≡ OutputTooShort = cc in
           record {
@@ -105,11 +97,10 @@ module _ (w : Written) (arrays : RecordArrays) (before : RecordBytes) where
           no : ◌≡◌ {A = Result (Unit {0}) Refusal} (Ok tt) (Err refusal) → ⊥
           no q = cc
 
-  pub passed_on : {x : Unit {0}} {now : RecordBytes} → refused_if code_short OutputTooShort ≡ Ok x → Wrote w arrays before now → WrittenAs w arrays before now (Ok tt)
+  pub passed_on : {x : Unit {0}} {now : RecordBytes} → refused_if code_short OutputTooShort ≡ Ok x → Wrote w arrays before now → Writes w made arrays before now (Ok made)
   passed_on {x} {now} e o =
-      let long = unmet code_short e in
-      let s : short_for w (as_arrays before) ≡ false = sym (short_is w before) ∙ long in
-      let fit = room_for w (held before) long in
+      let s : short_for w (as_arrays before) ≡ false = sym (short_is w before) ∙ unmet code_short e in
+      let fit = room_for w before s in
       let a = evidence_places w.first w.positions in
       let b = evidence_places w.second w.positions in
       record {

@@ -1,10 +1,12 @@
 -- A duplex record as bytes: a base and a quality are one byte, errors two bytes a position, low byte first, evidence nine.
-use Rattle.std.specs.Prelude.{ℕ, ◌/◌, ◌≡◌, Bool, false, Option, Some, None, Result, List, [], ◌∷◌, take}
+use Rattle.std.specs.Prelude.{ℕ, ◌/◌, ◌≡◌, Bool, Option, Some, None, Result, Ok, Err, List, [], ◌∷◌, take}
+use Rattle.std.specs.Option.{option_and}
 use Rattle.refusals.specs.declared.Refusal.{Refusal}
 use Rattle.refusals.specs.declared.Refusal.TheVariants.{OutputTooShort}
 use Rattle.refusals.specs.Refusal.{◌if◌, refused}
 use Rattle.refusals.specs.Outcome.{answer, after}
-use Rattle.methylation.specs.Arrays.{EvidenceArrays, evidence_arrays, evidence_in, evidence_places}
+use Rattle.methylation.specs.Arrays.{evidence_in, evidence_fronts, evidence_places, evidence_of_length}
+use Rattle.methylation.specs.declared.ConversionPattern.{ConversionPattern}
 use Rattle.byte_numbers.specs.Bytes.{words16, bytes16}
 use Rattle.molecule_evidence.specs.Evidence.{marks_of, unconverted_of, converted_of, evidence_bytes}
 use Rattle.duplex_outputs.specs.Outputs.{RecordArrays, record_of, record_lengths, record_too_short}
@@ -49,27 +51,23 @@ pub record LeavesBytes (refused : Option Refusal) (written before now : RecordBy
   pub evidence_a : now.evidence_a ≡ after refused written.evidence_a before.evidence_a
   pub evidence_b : now.evidence_b ≡ after refused written.evidence_b before.evidence_b
 
-abbrev pub written : ℕ → Bool → Bool → Written
+abbrev pub written : ℕ → Option ConversionPattern → Option ConversionPattern → Written
 written n first second = record { positions = n; first = first; second = second }
 
--- How many positions are written of an answer, and whether evidence of the first strand and of the second, by the annotations of A
--- and of B. A strand alone is the first.
-abbrev pub written_of : Bool → Bool → Option DuplexConsensus → Written
-written_of a b None = written 0 false false
-written_of a b (Some (Ab n)) = written n a false
-written_of a b (Some (Ba n)) = written n b false
+-- How many positions are written of an answer, and with which annotations the first strand and the second, by those of A and of B. A
+-- strand alone is the first.
+abbrev pub written_of : Option ConversionPattern → Option ConversionPattern → Option DuplexConsensus → Written
+written_of a b None = written 0 None None
+written_of a b (Some (Ab n)) = written n a None
+written_of a b (Some (Ba n)) = written n b None
 written_of a b (Some (Both n)) = written n a b
 
 -- Refusal 12's condition for it.
 abbrev pub short_for : Written → RecordArrays → Bool
-short_for w out = record_too_short w.positions w.first w.second (record_lengths out)
+short_for w out = record_too_short w.positions (record_lengths w.first w.second out)
 
 abbrev pub outputs_refused : Written → RecordBytes → Option Refusal
 outputs_refused w out = refused ((OutputTooShort if short_for w (as_arrays out)) ∷ [])
-
--- The first so many positions of evidence.
-abbrev pub evidence_fronts : ℕ → EvidenceArrays → EvidenceArrays
-evidence_fronts n e = evidence_arrays (take n e.marks) (take n e.unconverted) (take n e.converted)
 
 -- What is written of some arrays: so many positions.
 abbrev pub fronts : Written → RecordArrays → RecordArrays
@@ -83,17 +81,22 @@ fronts w r =
       b = evidence_fronts (evidence_places w.second n) r.b;
     }
 
--- What a call answers and leaves, given what it writes of these arrays.
-pub record WrittenAs (w : Written) (arrays : RecordArrays) (before now : RecordBytes) (r : Result (Unit {0}) Refusal) : Type 0 where
-  pub answered : r ≡ answer (outputs_refused w before) tt
+-- What a call answers and leaves that writes the record which was made, given what it writes of these arrays.
+pub record Writes (w : Written) (made : Option DuplexConsensus) (arrays : RecordArrays) (before now : RecordBytes) (r : Result (Option DuplexConsensus) Refusal) : Type 0 where
+  pub answered : r ≡ answer (outputs_refused w before) made
   pub outputs : LeavesBytes (outputs_refused w before) (as_bytes (fronts w arrays)) before now
 
--- For the functions below the call: how many positions outputs of so many bytes hold.
-abbrev pub positions_in : ℕ → ℕ → ℕ → ℕ → ℕ → RecordLengths
-positions_in bases quals errors a b = record {
+-- The same of what a call answered, of strands with these annotations. A refusal is handed on, and nothing is written.
+abbrev pub WrittenAs : Option ConversionPattern → Option ConversionPattern → Result (Option DuplexConsensus) Refusal → RecordArrays → RecordBytes → RecordBytes → Result (Option DuplexConsensus) Refusal → Type 0
+WrittenAs a b (Err refusal) arrays before now r = (r ≡ Err refusal) × (now ≡ before)
+WrittenAs a b (Ok made) arrays before now r = Writes (written_of a b made) made arrays before now r
+
+-- For the functions below the call: how many positions outputs of so many bytes hold, of evidence where it is written.
+abbrev pub positions_in : Written → ℕ → ℕ → ℕ → ℕ → ℕ → RecordLengths
+positions_in w bases quals errors a b = record {
   bases = bases;
   quals = quals;
   errors = errors / 2;
-  a = record { marks = a / 9; unconverted = a / 9; converted = a / 9 };
-  b = record { marks = b / 9; unconverted = b / 9; converted = b / 9 };
+  a = option_and w.first (Some (evidence_of_length (a / 9)));
+  b = option_and w.second (Some (evidence_of_length (b / 9)));
 }

@@ -6,12 +6,13 @@ ghost use Rattle.std.specs.Prelude.{◌≡◌, ◌/◌, length, take};
 ghost use Rattle.lists.specs.Output.{put};
 ghost use Rattle.methylation.specs.Arrays.{evidence_places};
 ghost use Rattle.molecule_evidence.specs.Evidence.{evidence_bytes};
-ghost use Rattle.c_record.specs.Outputs.{record_in, record_bytes, written_of, positions_in, WrittenAs};
+ghost use Rattle.c_record.specs.Lent.{bytes_out, SameBytes};
+ghost use Rattle.c_record.specs.Outputs.{record_in, written_of, positions_in, WrittenAs};
 
 use duplex_kind::DuplexConsensus;
 use duplex_outputs::{RecordLengths, record_too_short};
 use lists::{copy, front};
-use methylation::{EvidenceLengths, EvidenceSlices, evidence_places};
+use methylation::{ConversionPattern, EvidenceLengths, EvidenceSlices, evidence_places};
 use molecule_evidence::{POSITION_BYTES, write_evidence};
 use refusals::{Refusal, refuse};
 
@@ -25,22 +26,37 @@ pub struct RecordSlices<'a> {
     pub b: EvidenceSlices<'a>,
 }
 
-// How many positions are written, and whether evidence of the first strand and of the second.
+// The outputs for a record as bytes: its own, and those for the evidence of its first strand and of its second. A function that is
+// lent them leaves each slice where it is (specs/Lent.antt).
+#[derive(Drop)]
+pub struct ByteOutputs<'a> {
+    pub bases: &'a mut [u8],
+    pub quals: &'a mut [u8],
+    pub errors: &'a mut [u8],
+    pub a_evidence: &'a mut [u8],
+    pub b_evidence: &'a mut [u8],
+}
+
+// How many positions are written, and the annotations of the first strand and of the second: without one no evidence is.
 #[derive(Clone, Copy)]
 pub struct Written {
     pub positions: usize,
-    pub first: bool,
-    pub second: bool,
+    pub first: Option<ConversionPattern>,
+    pub second: Option<ConversionPattern>,
 }
 
-fn written_of(a_annotated: bool, b_annotated: bool, made: Option<DuplexConsensus>) -> Written
-    ensures { result ≡ written_of a_annotated b_annotated made }
+fn written_of(
+    a: Option<ConversionPattern>,
+    b: Option<ConversionPattern>,
+    made: Option<DuplexConsensus>,
+) -> Written
+    ensures { result ≡ written_of a b made }
 {
     let (positions, first, second) = match made {
-        None => (0, false, false),
-        Some(DuplexConsensus::Ab(n)) => (n, a_annotated, false),
-        Some(DuplexConsensus::Ba(n)) => (n, b_annotated, false),
-        Some(DuplexConsensus::Both(n)) => (n, a_annotated, b_annotated),
+        None => (0, None, None),
+        Some(DuplexConsensus::Ab(n)) => (n, a, None),
+        Some(DuplexConsensus::Ba(n)) => (n, b, None),
+        Some(DuplexConsensus::Both(n)) => (n, a, b),
     };
     Written {
         positions,
@@ -49,83 +65,68 @@ fn written_of(a_annotated: bool, b_annotated: bool, made: Option<DuplexConsensus
     }
 }
 
-// How many positions outputs of so many bytes hold.
+// How many positions outputs of so many bytes hold, of evidence where it is written.
 fn positions_in(
+    w: Written,
     bases: usize,
     quals: usize,
     errors: usize,
     a_evidence: usize,
     b_evidence: usize,
 ) -> RecordLengths
-    ensures { result ≡ positions_in bases quals errors a_evidence b_evidence }
+    ensures { result ≡ positions_in w bases quals errors a_evidence b_evidence }
 {
-    let a = a_evidence / POSITION_BYTES;
-    let b = b_evidence / POSITION_BYTES;
+    let a = EvidenceLengths::of(a_evidence / POSITION_BYTES);
+    let b = EvidenceLengths::of(b_evidence / POSITION_BYTES);
     RecordLengths {
         bases,
         quals,
         errors: errors / 2,
-        a: EvidenceLengths {
-            marks: a,
-            unconverted: a,
-            converted: a,
-        },
-        b: EvidenceLengths {
-            marks: b,
-            unconverted: b,
-            converted: b,
-        },
+        a: w.first.and(Some(a)),
+        b: w.second.and(Some(b)),
     }
 }
 
-// The first n positions of a strand's evidence, where there is any to write, as many as there is room for.
-// An annotated strand whose evidence is not written is one that is alone or not there: the flag is not the annotation's.
-fn write_strand(there: bool, n: usize, evidence: EvidenceSlices, out: &mut [u8])
-    ensures { out.new ≡ put (evidence_bytes (take (length out.old / 9) (take (evidence_places there n) evidence.entry.marks.now)) (take (evidence_places there n) evidence.entry.unconverted.now) (take (evidence_places there n) evidence.entry.converted.now)) out.old }
+// The first n positions of a strand's evidence, where there is an annotation, as many as there is room for.
+fn write_strand(
+    annotation: Option<ConversionPattern>,
+    n: usize,
+    evidence: EvidenceSlices,
+    out: &mut [u8],
+)
+    ensures { out.new ≡ put (evidence_bytes (take (length out.old / 9) (take (evidence_places annotation n) evidence.entry.marks.now)) (take (evidence_places annotation n) evidence.entry.unconverted.now) (take (evidence_places annotation n) evidence.entry.converted.now)) out.old }
 {
-    let places = evidence_places(there, n);
-    let written = EvidenceSlices {
-        marks: front(evidence.marks, places),
-        unconverted: front(evidence.unconverted, places),
-        converted: front(evidence.converted, places),
-    };
-    write_evidence(written, out);
+    write_evidence(evidence.front(evidence_places(annotation, n)), out);
 }
 
-// Writes the record that a call answered, from the arrays that it left. Evidence is written of the annotated strands that are in the
-// record. Refuses by 12, and then writes nothing.
-// Lent outputs stay apart: the borrow checker has no rule for a struct of them that is passed on.
+// Writes the record that a call answered, from the arrays that it left, and hands its answer on. Evidence is written of the annotated
+// strands that are in the record. What was refused is not written. Refuses by 12, and then writes nothing.
 pub fn write_record(
-    made: Option<DuplexConsensus>,
-    a_annotated: bool,
-    b_annotated: bool,
+    made: Result<Option<DuplexConsensus>, Refusal>,
+    a: Option<ConversionPattern>,
+    b: Option<ConversionPattern>,
     arrays: RecordSlices,
-    bases_out: &mut [u8],
-    quals_out: &mut [u8],
-    errors_out: &mut [u8],
-    a_evidence_out: &mut [u8],
-    b_evidence_out: &mut [u8],
-) -> Result<(), Refusal>
-    ensures { WrittenAs (written_of a_annotated b_annotated made)
-        (record_in arrays.entry)
-        (record_bytes bases_out.old quals_out.old errors_out.old a_evidence_out.old b_evidence_out.old)
-        (record_bytes bases_out.new quals_out.new errors_out.new a_evidence_out.new b_evidence_out.new)
-        result }
+    out: &mut ByteOutputs<'_>,
+) -> Result<Option<DuplexConsensus>, Refusal>
+    ensures same_references { SameBytes out.old out.new }
+    ensures written { WrittenAs a b made (record_in arrays.entry) (bytes_out out.old) (bytes_out out.new) result }
 {
-    let w = written_of(a_annotated, b_annotated, made);
+    let made = made?;
+    let w = written_of(a, b, made);
     let room = positions_in(
-        bases_out.len(),
-        quals_out.len(),
-        errors_out.len(),
-        a_evidence_out.len(),
-        b_evidence_out.len(),
+        w,
+        out.bases.len(),
+        out.quals.len(),
+        out.errors.len(),
+        out.a_evidence.len(),
+        out.b_evidence.len(),
     );
-    let short = record_too_short(w.positions, w.first, w.second, room);
+    let short = record_too_short(w.positions, room);
     refuse(short, Refusal::OutputTooShort)?;
-    copy(front(arrays.bases, w.positions), bases_out);
-    copy(front(arrays.quals, w.positions), quals_out);
-    byte_numbers::write(front(arrays.errors, w.positions), errors_out);
-    write_strand(w.first, w.positions, arrays.a, a_evidence_out);
-    write_strand(w.second, w.positions, arrays.b, b_evidence_out);
-    Ok(())
+    copy(front(arrays.bases, w.positions), out.bases);
+    copy(front(arrays.quals, w.positions), out.quals);
+    byte_numbers::write(front(arrays.errors, w.positions), out.errors);
+    write_strand(w.first, w.positions, arrays.a, out.a_evidence);
+    write_strand(w.second, w.positions, arrays.b, out.b_evidence);
+    Ok(made)
 }

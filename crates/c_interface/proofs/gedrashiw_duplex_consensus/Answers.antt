@@ -1,5 +1,6 @@
 -- `c_interface::gedrashiw_duplex_consensus` meets its contract: the combination of the strands as far as they are looked at. Assumes
 -- nothing.
+use Rattle.std.proofs.Common.{rules}
 use Rattle.replies.specs.Choices.{yes}
 use Rattle.molecule_strand.specs.Strand.{strand_bytes, annotation_of}
 use Rattle.c_interface.specs.Entry.{told}
@@ -12,11 +13,9 @@ returns c =
     entry_as _ _
     (strand_bytes (yes g.a_present) (annotation_of (told g.a_present g.a_annotated) g.a_pattern) g.a_bases.now g.a_quals.now g.a_depths.now g.a_errors.now g.a_evidence.now)
     (strand_bytes (yes g.b_present) (annotation_of (told g.b_present g.b_annotated) g.b_pattern) g.b_bases.now g.b_quals.now g.b_depths.now g.b_errors.now g.b_evidence.now)
-    (yes g.listed) g.reads
-    (rw c.told.ensures at c.wrong_pattern.ensures)
-    (rw c.told-2.ensures at c.wrong_pattern-2.ensures)
-    c.strand_given.ensures
-    c.strand_given-2.ensures
+    (yes g.listed) g.reads c.consensus.result
+    c.strand_told.ensures
+    c.strand_told-2.ensures
     c.then_some.ensures
-    c.consensus.ensures
+    (search (rules, c.consensus.ensures.made))
     c.from.ensures

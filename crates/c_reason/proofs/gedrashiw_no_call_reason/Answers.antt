@@ -17,8 +17,6 @@ returns c =
     (strand_bytes (yes g.a_present) (annotation_of (told g.a_present g.a_annotated) g.a_pattern) g.a_bases.now g.a_quals.now g.a_depths.now g.a_errors.now g.a_evidence.now)
     (strand_bytes (yes g.b_present) (annotation_of (told g.b_present g.b_annotated) g.b_pattern) g.b_bases.now g.b_quals.now g.b_depths.now g.b_errors.now g.b_evidence.now)
     g.position
-    (rw c.told.ensures at c.wrong_pattern.ensures)
-    (rw c.told-2.ensures at c.wrong_pattern-2.ensures)
-    c.strand_given-a.ensures
-    c.strand_given-b.ensures
+    c.strand_told-a.ensures
+    c.strand_told-b.ensures
     c.reason_by.ensures)
