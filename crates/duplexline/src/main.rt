@@ -12,6 +12,7 @@ fn read_full(input: &mut impl Read, buf: &mut [u8]) -> usize
     ensures { result ≤ length buf.new }
 {
     let mut done = 0;
+    // Not a `for`: how far a read gets is known only after it.
     while done < buf.len() {
         let Ok(n) = input.read(&mut buf[done..]) else {
             break;

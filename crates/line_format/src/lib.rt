@@ -1,9 +1,8 @@
 // The texts that a record is reported with: a header and a line of what the record is, that there is none, or a refusal. Uses
-// refusals, decimal, line_output, metrics_bits and line_metrics.
+// decimal, line_output, metrics_bits and line_metrics. By hand, not by Display, as line_output says.
 #![tactic(auto)]
 
 ghost use Rattle.std.specs.Prelude.{◌≤◌, length};
-ghost use Rattle.refusals.specs.Refusal.{number_of};
 ghost use Rattle.line_output.specs.Text.{Written, Appended};
 ghost use Rattle.line_metrics.specs.MetricsText.{metrics_text};
 ghost use Rattle.line_format.specs.Line.{columns_in, kind_text, gate_text, columns_text, opening, closing, line_text, none_text, refused_text, Short, Typed};
@@ -11,7 +10,6 @@ ghost use Rattle.line_format.specs.Line.{columns_in, kind_text, gate_text, colum
 use line_metrics::write_metrics;
 use line_output::{write_number, write_printed, write_text, write_u8s, write_u16s};
 use metrics_bits::MetricsBits;
-use refusals::Refusal;
 
 // What stands above each record.
 pub const HEADER: [u8; 59] = *b"kind gate bases quals errors aD aM aE bD bM bE cD cM cE nc\n";
@@ -19,7 +17,8 @@ pub const HEADER: [u8; 59] = *b"kind gate bases quals errors aD aM aE bD bM bE c
 // The text of a record with at most 1,024 positions is no longer than this.
 pub const LINE_BYTES: usize = 12288;
 
-// What a record is made of: strand A, strand B, or both.
+// What a record is made of: strand A, strand B, or both. Not duplex_kind's DuplexConsensus: that is this and a number of positions, which no
+// text has, so that a writer of it would be given a number it does not look at.
 #[derive(Clone, Copy, Debug, PartialEq, Eq)]
 pub enum Kind {
     Ab,
@@ -114,12 +113,11 @@ pub fn write_none(out: &mut [u8]) -> usize
     write_text(b"none\n", out, at)
 }
 
-// A refusal, with no header.
-pub fn write_refused(refusal: Refusal, out: &mut [u8]) -> usize
-    ensures written { Written (refused_text (number_of refusal)) out.old out.new result }
-    ensures number_len_bound { length (refused_text (number_of refusal)) ≤ 12288 }
+// A refusal, with no header. Any number is taken: a Refusal would ask more of callers.
+pub fn write_refused(number: u8, out: &mut [u8]) -> usize
+    ensures written { Written (refused_text number) out.old out.new result }
+    ensures number_len_bound { length (refused_text number) ≤ 12288 }
 {
-    let number = refusal.number();
     let at = write_text(b"refused ", out, 0);
     let at = write_number(number as u64, out, at);
     write_text(b"\n", out, at)

@@ -1,4 +1,5 @@
 // The metrics of a record as text: ten numbers, a blank before each. Uses decimal, hexadecimal, line_output and metrics_bits.
+// By hand, not by Display, as line_output says.
 #![tactic(auto)]
 
 ghost use Rattle.std.specs.Prelude.{◌≤◌, length};

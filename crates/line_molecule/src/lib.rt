@@ -1,5 +1,6 @@
 // The text that duplexline prints for an encoded molecule: the line program of document 01, but for reading and writing.
-// Uses lists, refusals, byte_numbers, molecule_encoding, molecule_strand, duplex_min_reads, line_record and line_strands.
+// Uses lists, refusals, byte_numbers, molecule_encoding, molecule_strand, molecule_consensus, duplex_min_reads, line_record and
+// line_strands.
 #![tactic(auto)]
 
 ghost use Rattle.std.specs.Prelude.{◌≡◌, drop};
@@ -12,6 +13,7 @@ use duplex_min_reads::validate_min_reads;
 use line_record::{Line, refused_line};
 use line_strands::strands_line;
 use lists::get_or;
+use molecule_consensus::EncodedMolecule;
 use molecule_encoding::{Molecule, StrandFields, read_molecule};
 use molecule_strand::{EncodedStrand, annotation_of};
 
@@ -27,20 +29,17 @@ fn evidence_of(value: &[u8]) -> &[u8]
 fn strand_of<'a>(s: Option<StrandFields<'a>>) -> Option<EncodedStrand<'a>>
     ensures { encoded_in result ≡ strand_in (parts_in s.entry) }
 {
-    match s {
-        Some(s) => {
-            let value = s.annotation.unwrap_or(&[]);
-            Some(EncodedStrand {
-                annotation: annotation_of(s.annotation.is_some(), get_or(value, 0, 0)),
-                bases: s.bases,
-                quals: s.quals,
-                depths: s.depths,
-                errors: s.errors,
-                evidence: evidence_of(value),
-            })
+    s.map(|s| {
+        let value = s.annotation.unwrap_or(&[]);
+        EncodedStrand {
+            annotation: annotation_of(s.annotation.is_some(), get_or(value, 0, 0)),
+            bases: s.bases,
+            quals: s.quals,
+            depths: s.depths,
+            errors: s.errors,
+            evidence: evidence_of(value),
         }
-        None => None,
-    }
+    })
 }
 
 // The line of a molecule. More than 4 thresholds are refused as 4 are, so that no more are read.
@@ -54,8 +53,15 @@ fn molecule_line(m: Molecule) -> Line
     let count = (values.len() / 4).min(4);
     let min_reads = &thresholds[0..count];
     match validate_min_reads(min_reads) {
-        Ok(_) => strands_line(strand_of(m.a), strand_of(m.b), m.reads, min_reads),
-        Err(refusal) => refused_line(refusal),
+        Ok(_) => {
+            let encoded = EncodedMolecule {
+                a: strand_of(m.a),
+                b: strand_of(m.b),
+                reads: m.reads,
+            };
+            strands_line(encoded, min_reads)
+        }
+        Err(refusal) => refused_line(refusal.number()),
     }
 }
 
@@ -65,6 +71,6 @@ pub fn duplex_line(bytes: &[u8]) -> Line
 {
     match read_molecule(bytes) {
         Ok(m) => molecule_line(m),
-        Err(refusal) => refused_line(refusal),
+        Err(refusal) => refused_line(refusal.number()),
     }
 }

@@ -1,5 +1,6 @@
 // Writers of text. Each writes as much of its text as there is room for from a place of out on, and answers the place behind it,
 // where the next one starts. Uses lists, decimal and hexadecimal.
+// By hand, not by Display: a text is cut where the output ends, and what a `write!` that fails has written no clause says.
 #![tactic(auto)]
 
 ghost use Rattle.std.specs.Prelude.{◌≡◌, ◌*◌, ◌≤◌, length};
@@ -51,7 +52,8 @@ fn write_item(place: usize, n: u64, out: &mut [u8], at: usize) -> usize
 }
 
 // Numbers in decimal with commas: of 8 bits, so at most 4 bytes for each.
-// Not one function for both: the bound on the text is another for each width.
+// Not one function for both: the bound on the text is another for each width, so a trait would have to state it beside the number, with an
+// impl for each width, and each caller to read its numbers through the trait: longer than the second function.
 pub fn write_u8s(numbers: &[u8], out: &mut [u8], at: usize) -> usize
     ensures appended { Appended (comma_list numbers.now) at out.old out.new result }
     ensures numbers_len_bound { length (comma_list numbers.now) ≤ 4 * length numbers.now }

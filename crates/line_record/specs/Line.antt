@@ -1,8 +1,6 @@
 -- The text that a duplex record is reported with, document 01: its line program, from an answer of the library and the arrays around it.
 use Rattle.std.specs.Prelude.{ℕ, ◌≤◌, Option, None, Some, Result, Ok, Err, List, length, take, replicate}
 use Rattle.duplex_kind.specs.declared.DuplexConsensus.{DuplexConsensus}
-use Rattle.refusals.specs.declared.Refusal.{Refusal}
-use Rattle.refusals.specs.Refusal.{number_of}
 use Rattle.line_output.specs.Text.{Written}
 use Rattle.line_format.specs.Line.{Columns, columns, line_text, none_text, refused_text, Short}
 use Rattle.line_report.specs.Report.{Strands, reported}
@@ -18,13 +16,13 @@ abbrev pub some_text : Report → Columns → List ℕ
 some_text report c = line_text report.kind report.kept (front report.positions c) report.metrics
 
 -- The text of what is reported.
-abbrev pub report_text : Result (Option Report) Refusal → Columns → List ℕ
-report_text (Err refusal) c = refused_text (number_of refusal)
+abbrev pub report_text : Result (Option Report) ℕ → Columns → List ℕ
+report_text (Err number) c = refused_text number
 report_text (Ok None) c = none_text
 report_text (Ok (Some report)) c = some_text report c
 
 -- The text of an answer, given what there is of the strands, the thresholds, and the arrays that a record was written to.
-abbrev pub answer_text : Result (Option DuplexConsensus) Refusal → Strands → List ℕ → Columns → List ℕ
+abbrev pub answer_text : Result (Option DuplexConsensus) ℕ → Strands → List ℕ → Columns → List ℕ
 answer_text made s thresholds c = report_text (reported made s thresholds c.bases c.errors) c
 
 abbrev pub blank : List ℕ

@@ -1,32 +1,31 @@
-// The line that a duplex record is reported with, from what the library answered and wrote. Uses lists, refusals, duplex_kind, line_format and
-// line_report.
+// The line that a duplex record is reported with, from what the library answered and wrote. Uses lists, duplex_kind, duplex_metrics,
+// line_format and line_report.
 #![tactic(auto)]
 
 ghost use Rattle.line_format.specs.Line.{columns_in, none_text, refused_text};
-ghost use Rattle.refusals.specs.Refusal.{number_of};
 ghost use Rattle.line_report.specs.Report.{strands_in};
 ghost use Rattle.line_record.specs.Line.{some_text, report_text, answer_text, Holds, HoldsOf};
 
 use duplex_kind::DuplexConsensus;
+use duplex_metrics::Counts;
 use line_format::{RecordColumns, write_none, write_record, write_refused};
-use line_report::{CountBytes, Report, record_report};
+use line_report::{Report, record_report};
 use lists::front;
-use refusals::Refusal;
 
-// A text: its length, and its bytes at the front of zeros.
+// A text: its length, and its bytes at the front of zeros. No heap, so the bytes have a fixed room, and the text may be shorter.
 #[derive(Clone, Copy)]
 pub struct Line {
     pub length: usize,
     pub bytes: [u8; 12288],
 }
 
-// The line of a refusal.
-pub fn refused_line(refusal: Refusal) -> Line
-    ensures { Holds (refused_text (number_of refusal)) result }
+// The line of a refusal. Any number is taken: a Refusal would ask more of callers.
+pub fn refused_line(number: u8) -> Line
+    ensures { Holds (refused_text number) result }
 {
     // No heap: arrays of the most that is looked at.
     let mut bytes = [0; 12288];
-    let length = write_refused(refusal, &mut bytes);
+    let length = write_refused(number, &mut bytes);
     Line { length, bytes }
 }
 
@@ -59,12 +58,13 @@ fn text_line(report: Report, row: RecordColumns) -> Line
     Line { length, bytes }
 }
 
-fn report_line(report: Result<Option<Report>, Refusal>, row: RecordColumns) -> Line
+fn report_line(report: Result<Option<Report>, u8>, row: RecordColumns) -> Line
     ensures { HoldsOf (report_text report (columns_in row.entry)) (columns_in row.entry) result }
 {
+    // In two steps: of one match with three arms the proof did not close.
     let report = match report {
         Ok(report) => report,
-        Err(refusal) => return refused_line(refusal),
+        Err(number) => return refused_line(number),
     };
     match report {
         Some(report) => text_line(report, row),
@@ -73,11 +73,11 @@ fn report_line(report: Result<Option<Report>, Refusal>, row: RecordColumns) -> L
 }
 
 // The line of what the library answered, from the depths and errors of the strands as bytes, the thresholds, and the arrays that a
-// record was written to.
+// record was written to. An answer that is refused by any number is taken, as by record_report.
 pub fn record_line(
-    made: Result<Option<DuplexConsensus>, Refusal>,
-    a: CountBytes,
-    b: CountBytes,
+    made: Result<Option<DuplexConsensus>, u8>,
+    a: Counts<u8>,
+    b: Counts<u8>,
     min_reads: &[u32],
     row: RecordColumns,
 ) -> Line

@@ -1,16 +1,17 @@
 -- What is reported of an answer of the library beside its positions, document 01: its line program.
 use Rattle.std.specs.Prelude.{ℕ, Bool, true, false, Option, None, Some, Result, Ok, Err, List, [], take}
 use Rattle.refusals.specs.declared.Refusal.{Refusal}
+use Rattle.refusals.specs.Refusal.{number_of}
 use Rattle.byte_numbers.specs.Bytes.{words16}
 use Rattle.duplex_kind.specs.declared.DuplexConsensus.{DuplexConsensus}
 use Rattle.duplex_kind.specs.declared.DuplexConsensus.TheVariants.{Ab, Ba, Both}
 use Rattle.duplex_gate.specs.ConsensusGate.{consensus_gate}
 use Rattle.duplex_metrics.specs.Metrics.{Input, input, metrics_of}
+use Rattle.duplex_metrics.specs.declared.Counts.{Counts as Lent}
 use Rattle.metrics_bits.specs.Bits.{metrics_words}
 use Rattle.metrics_bits.specs.declared.MetricsBits.{MetricsBits}
 use Rattle.line_format.specs.declared.Kind.{Kind}
 use Rattle.line_format.specs.declared.Kind.TheVariants.{Ab as Ab-kind, Ba as Ba-kind, Both as Both-kind}
-use Rattle.line_report.specs.declared.CountBytes.{CountBytes}
 use Rattle.line_report.specs.declared.Report.{Report}
 
 -- The depths and errors of a strand.
@@ -30,14 +31,14 @@ abbrev pub strands : Counts → Counts → Strands
 strands a b = record { a = a; b = b }
 
 -- Those that stand as bytes.
-abbrev pub counts_in : CountBytes → Counts
+abbrev pub counts_in : Lent ℕ → Counts
 counts_in s = counts (words16 s.depths.now) (words16 s.errors.now)
 
-abbrev pub strands_in : CountBytes → CountBytes → Strands
+abbrev pub strands_in : Lent ℕ → Lent ℕ → Strands
 strands_in a b = strands (counts_in a) (counts_in b)
 
 -- A record's own strands, the second where there is one, with the record's bases and errors.
-abbrev pub input_in : CountBytes → Option CountBytes → List ℕ → List ℕ → Input
+abbrev pub input_in : Lent ℕ → Option (Lent ℕ) → List ℕ → List ℕ → Input
 input_in a None bases errors = input (words16 a.depths.now) (words16 a.errors.now) false [] [] bases errors
 input_in a (Some b) bases errors = input (words16 a.depths.now) (words16 a.errors.now) true (words16 b.depths.now) (words16 b.errors.now) bases errors
 
@@ -62,15 +63,15 @@ front_input n x = input (take n x.a) (take n x.a_errors) x.second (take n x.b) (
 abbrev pub record_report : Kind → ℕ → Input → List ℕ → Result Report Refusal
 record_report kind n x thresholds = judged kind n (front_input n x) thresholds
 
--- That there is a record.
-abbrev pub some_report : Result Report Refusal → Result (Option Report) Refusal
-some_report (Err refusal) = Err refusal
+-- That there is a record, or the number of what refuses it.
+abbrev pub some_report : Result Report Refusal → Result (Option Report) ℕ
+some_report (Err refusal) = Err (number_of refusal)
 some_report (Ok report) = Ok (Some report)
 
 -- An answer, given the strands, the thresholds, and the bases and errors that a record was written to. A record's own strands are
--- both, or the one that it is made of: B alone is the first.
-abbrev pub reported : Result (Option DuplexConsensus) Refusal → Strands → List ℕ → List ℕ → List ℕ → Result (Option Report) Refusal
-reported (Err refusal) s thresholds bases errors = Err refusal
+-- both, or the one that it is made of: B alone is the first. A refused answer has its number.
+abbrev pub reported : Result (Option DuplexConsensus) ℕ → Strands → List ℕ → List ℕ → List ℕ → Result (Option Report) ℕ
+reported (Err number) s thresholds bases errors = Err number
 reported (Ok None) s thresholds bases errors = Ok None
 reported (Ok (Some (Ab n))) s thresholds bases errors = some_report (record_report Ab-kind n (input s.a.depths s.a.errors false [] [] bases errors) thresholds)
 reported (Ok (Some (Ba n))) s thresholds bases errors = some_report (record_report Ba-kind n (input s.b.depths s.b.errors false [] [] bases errors) thresholds)

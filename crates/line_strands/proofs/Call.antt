@@ -16,7 +16,7 @@ use Rattle.line_format.specs.Line.{columns}
 use Rattle.line_report.specs.Report.{strands}
 use Rattle.line_record.specs.Line.{answer_text, Within, Holds, HoldsOf}
 use Rattle.line_record.specs.declared.Line.{Line}
-use Rattle.line_strands.specs.Strands.{zeros, counts_of, strands_text}
+use Rattle.line_strands.specs.Strands.{zeros, numbered, counts_of, strands_text}
 
 -- The buffers as the call begins.
 abbrev pub buffers : RecordArrays
@@ -27,7 +27,7 @@ ample = zeros_ample
 
 module _ (ts : List ℕ) (a b : StrandBytes) (listed : Bool) (run : List ℕ) {now : RecordArrays} {made : Result (Option DuplexConsensus) Refusal} (e : BytesAs (seen a) (seen b) listed run buffers now made) where
   abbrev found : List ℕ
-  found = answer_text made (strands (counts_of a) (counts_of b)) ts (columns now.bases now.quals now.errors)
+  found = answer_text (numbered made) (strands (counts_of a) (counts_of b)) ts (columns now.bases now.quals now.errors)
 
   same_text : found ≡ strands_text ts a b listed run
   unfolding strands_text

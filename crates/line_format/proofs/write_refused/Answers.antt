@@ -8,7 +8,7 @@ use Rattle.line_format.proofs.write_refused.Goals as goal
 
 pub returns-clause-written : goal.returns-clause-written
 unfolding refused_text
-returns-clause-written c = rw (← c.number-number.ensures) ((then (then c.write_text-at.ensures c.write_number-at.ensures) c.write_text.ensures).written)
+returns-clause-written c = (then (then c.write_text-at.ensures c.write_number-at.ensures) c.write_text.ensures).written
 
 pub returns-clause-number_len_bound : goal.returns-clause-number_len_bound
-returns-clause-number_len_bound c = rw (← c.number-number.ensures) (refused_most _ (few_digits 2 c.number-number.result (omega arith)))
+returns-clause-number_len_bound c = refused_most _ (few_digits 2 c.args.number (omega arith))

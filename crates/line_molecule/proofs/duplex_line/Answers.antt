@@ -8,4 +8,4 @@ pub returns-in-Ok : goal.returns-in-Ok
 returns-in-Ok c = by_decoded c.args.bytes.now (sym (ap molecule_in c.in-Ok.is) ∙ c.read_molecule.ensures) c.molecule_line.ensures
 
 pub returns-in-Err : goal.returns-in-Err
-returns-in-Err c = by_decoded c.args.bytes.now (sym (ap molecule_in c.in-Err.is) ∙ c.read_molecule.ensures) c.refused_line.ensures
+returns-in-Err c = by_decoded c.args.bytes.now (sym (ap molecule_in c.in-Err.is) ∙ c.read_molecule.ensures) (rw c.number.ensures at c.refused_line.ensures)

@@ -18,4 +18,4 @@ pub returns-in-Err : goal.returns-in-Err
 returns-in-Err c =
     let m = c.args.m in
     let v : c.unwrap_or-values.result.now ≡ value_or (value_in m.thresholds) = search rules in
-    text_refused (parts_of m) v (slice_read c.unwrap_or-values.result.now c.read.ensures c.min-count.ensures) c.validate_min_reads.ensures c.in-Err.is c.refused_line.ensures
+    text_refused (parts_of m) v (slice_read c.unwrap_or-values.result.now c.read.ensures c.min-count.ensures) c.validate_min_reads.ensures c.in-Err.is (rw c.number.ensures at c.refused_line.ensures)
