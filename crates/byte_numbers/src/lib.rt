@@ -99,6 +99,7 @@ pub fn read<N: LittleEndian>(bytes: &[u8], out: &mut [N])
 {
     let size = N::SIZE;
     let n = out.len().min(bytes.len() / size);
+    // By index: of what is written through out.iter_mut().zip(bytes.chunks_exact(size)) the proof learns no number (tried).
     for i in 0..n {
         let at = size * i;
         out[i] = N::from_bytes(&bytes[at..at + size]);
@@ -111,6 +112,7 @@ pub fn write<N: LittleEndian>(numbers: &[N], out: &mut [u8])
 {
     let size = N::SIZE;
     let n = (out.len() / size).min(numbers.len());
+    // By index: of what is written through numbers.iter().zip(out.chunks_exact_mut(size)) the proof learns no byte (tried).
     for i in 0..n {
         let at = size * i;
         numbers[i].write_bytes(&mut out[at..at + size]);

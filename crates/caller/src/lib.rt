@@ -69,7 +69,7 @@ pub fn write_consensus_read_name(
     Ok(read_name_prefix.len() + 1 + umi.len())
 }
 
-// The refusal of a strand's depths and errors of these lengths, if any.
+// The refusal of a strand's depths and errors of these lengths, if any. Two parameters and no struct of both, here and below: the Rust's own.
 pub fn rate_refusal(depths: usize, errors: usize) -> Result<(), Refusal>
     ensures { result ≡ answer (rate_refused depths errors) tt }
 {
@@ -80,17 +80,12 @@ pub fn rate_refusal(depths: usize, errors: usize) -> Result<(), Refusal>
     refuse(errors != depths, Refusal::Ragged)
 }
 
-fn rate_of(depths: &[u16], errors: &[u16]) -> f32
-    requires { (length errors.now ≡ length depths.now) × (length depths.now ≤ 1024) }
-    ensures { result ≡ rate_of (total errors.now) (total depths.now) }
+// The sum of a strand's depths, or of its errors.
+fn total(numbers: &[u16]) -> u32
+    requires { length numbers.now ≤ 1024 }
+    ensures { result ≡ total numbers.now }
 {
-    let mut all_depths = 0;
-    let mut all_errors = 0;
-    for i in 0..depths.len() {
-        all_depths += u32::from(depths[i]);
-        all_errors += u32::from(errors[i]);
-    }
-    error_rate(all_errors, all_depths)
+    numbers.iter().map(|&n| u32::from(n)).sum()
 }
 
 // All errors of a strand over all its depths, none of them held; 0 where the depths sum to 0. Refuses by 7, 8.
@@ -98,5 +93,5 @@ pub fn calculate_error_rate(depths: &[u16], errors: &[u16]) -> Result<f32, Refus
     ensures { result ≡ error_rate depths.now errors.now }
 {
     rate_refusal(depths.len(), errors.len())?;
-    Ok(rate_of(depths, errors))
+    Ok(error_rate(total(errors), total(depths)))
 }

@@ -6,7 +6,7 @@
 --     only_digits                   each character of the text is a digit's
 --     value_decimal                 the text read back is the number
 --     listed_append                 numbers with a comma before each, in two parts
---     put_first                     what an output holds when the first digit is stored
+--     put_first, put_more           what an output holds when the first digit is stored, and one more behind those of the tenth
 -- Assumes nothing.
 use mathlib.Core.Path.{◌≡◌, refl, ap, ◌∙◌, sym}
 use mathlib.Core.Bool.{Bool, true, false, cond}
@@ -86,6 +86,15 @@ few_digits (suc k) n h = go (ltb n 10) refl (λ large. few_digits k (n / 10) (te
 pub put_first : (n : ℕ) (out : List ℕ) → n < 10 → set out 0 (digit n) ≡ put (take (length out) (decimal n)) out
 unfolding put
 put_first n out h = rw (decimal_one n h) (simp take-nil at (fitting_snoc [] out (digit n)))
+
+pub put_more :
+    (n : ℕ) (out : List ℕ) {rest after : List ℕ} {at : ℕ}
+    → 10 ≤ n
+    → at ≡ length (decimal (n / 10))
+    → rest ≡ put (take (length out) (decimal (n / 10))) out
+    → after ≡ set rest at (digit (n % 10))
+    → after ≡ put (take (length out) (decimal n)) out
+put_more n out h a r e = e ∙ rw (a, r, decimal_more n h) (fitting_snoc (decimal (n / 10)) out (digit (n % 10)))
 
 pub only_digits : (P : ℕ → Type 0) → ((d : ℕ) → d < 10 → P (digit d)) → (n : ℕ) → Each P (decimal n)
 only_digits P so = by_tenths (λ n. Each P (decimal n)) (λ n h. rw (decimal_one n h) (so n h, tt)) (λ n h rest. rw (decimal_more n h) (each_snoc (decimal (n / 10)) (digit (n % 10)) rest (so (n % 10) (omega arith))))

@@ -17,7 +17,7 @@ fn write_digit(value: u8, out: &mut [u8], at: usize)
 }
 
 // Writes as much of a number's text as there is room for to the front of out, and answers how many digits the number has.
-#[tactic(auto, using(crate::proofs::Decimal::length_one, crate::proofs::Decimal::length_more, crate::proofs::Decimal::digits_within, crate::proofs::Decimal::put_first))]
+#[tactic(auto, using(crate::proofs::Decimal::length_one, crate::proofs::Decimal::length_more, crate::proofs::Decimal::digits_within, crate::proofs::Decimal::put_first, crate::proofs::Decimal::put_more))]
 pub fn write_decimal(n: u64, out: &mut [u8]) -> usize
     ensures value { result ≡ length (decimal n) }
     ensures out_after { out.new ≡ put (take (length out.old) (decimal n)) out.old }

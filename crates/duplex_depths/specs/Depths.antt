@@ -1,10 +1,10 @@
 -- The depths of both strands at each position of a duplex record, uncapped, and their range.
-use Rattle.std.specs.Prelude.{ℕ, Bool, cond, ltb, Option, Result, List, [], ◌∷◌, length, get_or}
+use Rattle.std.specs.Prelude.{ℕ, cond, ltb, Option, Result, List, [], ◌∷◌, length, get_or}
 use Rattle.lists.specs.Table.{tabulate}
 use Rattle.numbers.specs.Numbers.{saturating_add, largest, smallest}
 use Rattle.refusals.specs.declared.Refusal.{Refusal}
 use Rattle.refusals.specs.declared.Refusal.TheVariants.{TooLong, OutputTooShort}
-use Rattle.refusals.specs.Refusal.{Fault, ◌if◌, too_long, too_short, refused}
+use Rattle.refusals.specs.Refusal.{Fault, ◌if◌, record_too_long, too_short, refused}
 use Rattle.refusals.specs.Outcome.{answer}
 use Rattle.duplex_depths.specs.declared.DepthRange.{DepthRange}
 
@@ -19,10 +19,6 @@ combined_depths n ab ba = tabulate n (combined_depth ab ba)
 -- The longer strand's depths, the first's where they are as long.
 abbrev pub longer : List ℕ → List ℕ → List ℕ
 longer ab ba = cond (ltb (length ab) (length ba)) ba ab
-
--- Refusal 7's condition for a record of n positions, by how many depths its strands have.
-abbrev pub record_too_long : ℕ → ℕ → ℕ → Bool
-record_too_long n ab ba = too_long (n ∷ ab ∷ ba ∷ [])
 
 abbrev pub combined_faults : ℕ → ℕ → ℕ → ℕ → List Fault
 combined_faults n ab ba out =

@@ -5,11 +5,12 @@
 ghost use Rattle.std.specs.Prelude.{ℕ, ◌≡◌, ◌≤◌, length, get_or};
 ghost use Rattle.lists.specs.Output.{put};
 ghost use Rattle.refusals.specs.Outcome.{answer, after};
-ghost use Rattle.duplex_depths.specs.Depths.{combined_depths, longer, record_too_long, combined_refused, extremes, depth_range};
+ghost use Rattle.refusals.specs.Refusal.{record_too_long};
+ghost use Rattle.duplex_depths.specs.Depths.{combined_depths, longer, combined_refused, extremes, depth_range};
 
 use lists::copy;
 use numbers::{largest, smallest};
-use refusals::{MAX_POSITIONS, Refusal, refuse};
+use refusals::{Refusal, record_too_long, refuse};
 
 #[derive(Clone, Copy, Debug, PartialEq, Eq)]
 pub struct DepthRange {
@@ -25,11 +26,13 @@ pub struct RecordDepths<'a> {
     pub ba: &'a [u16],
 }
 
-// Row 7's condition for a record.
-fn record_too_long(r: RecordDepths) -> bool
-    ensures { result ≡ record_too_long r.entry.positions (length r.entry.ab.now) (length r.entry.ba.now) }
-{
-    (MAX_POSITIONS < r.positions) | ((MAX_POSITIONS < r.ab.len()) | (MAX_POSITIONS < r.ba.len()))
+impl RecordDepths<'_> {
+    // Row 7's condition.
+    pub fn too_long(self) -> bool
+        ensures { result ≡ record_too_long self.entry.positions (length self.entry.ab.now) (length self.entry.ba.now) }
+    {
+        record_too_long(self.positions, self.ab.len(), self.ba.len())
+    }
 }
 
 // The longer of two slices, the first where they are as long. That a depth fits its type is told of a slice, and not of a slice in a
@@ -42,6 +45,7 @@ fn longer<'a>(xs: &'a [u16], ys: &'a [u16]) -> &'a [u16]
 }
 
 // To where both strands reach their depths are added; then the longer is alone, and behind it there is none.
+#[tactic(auto, using(lists::proofs::Output::begin, lists::proofs::Table::length_tabulate, lists::proofs::Told::next_table), unfolding(numbers::specs::Numbers::saturating_add))]
 fn write_combined(r: RecordDepths, out: &mut [u16])
     requires { r.positions ≤ length out.old }
     ensures { out.new ≡ put (combined_depths r.entry.positions r.entry.ab.now r.entry.ba.now) out.old }
@@ -62,7 +66,7 @@ pub fn combined_depths(r: RecordDepths, out: &mut [u16]) -> Result<usize, Refusa
     ensures value { result ≡ answer (combined_refused r.entry.positions r.entry.ab.now r.entry.ba.now out.old) r.entry.positions }
     ensures out_after { out.new ≡ after (combined_refused r.entry.positions r.entry.ab.now r.entry.ba.now out.old) (combined_depths r.entry.positions r.entry.ab.now r.entry.ba.now) out.old }
 {
-    refuse(record_too_long(r), Refusal::TooLong)?;
+    refuse(r.too_long(), Refusal::TooLong)?;
     refuse(out.len() < r.positions, Refusal::OutputTooShort)?;
     write_combined(r, out);
     Ok(r.positions)
@@ -78,10 +82,11 @@ fn extremes(depths: &[u16]) -> DepthRange
 }
 
 // The smallest and the largest of a record's combined depths, each 0 over no positions. Refuses by 7.
+#[tactic(auto, using(lists::proofs::Output::front_of, crate::proofs::Depths::combined_length))]
 pub fn depth_range(r: RecordDepths) -> Result<DepthRange, Refusal>
     ensures { result ≡ depth_range r.entry.positions r.entry.ab.now r.entry.ba.now }
 {
-    let too_long = record_too_long(r);
+    let too_long = r.too_long();
     refuse(too_long, Refusal::TooLong)?;
     // No heap: arrays of the most that is looked at.
     let mut depths = [0; 1024];

@@ -49,6 +49,6 @@ pub fn allows_single_strand_consensus(min_reads: &[u32]) -> Result<bool, Refusal
 pub fn reaches(min_reads: MinReads, a: u32, b: u32) -> bool
     ensures { result ≡ reaches_all min_reads a b }
 {
-    let sum = a as u64 + b as u64;
-    (min_reads.total as u64 <= sum) & ((min_reads.xy <= a.max(b)) & (min_reads.yx <= a.min(b)))
+    let sum = u64::from(a) + u64::from(b);
+    (u64::from(min_reads.total) <= sum) & ((min_reads.xy <= a.max(b)) & (min_reads.yx <= a.min(b)))
 }

@@ -24,7 +24,7 @@ pub fn next_field(bytes: &[u8]) -> Result<Option<FirstField<'_>>, Refusal>
     match bytes {
         [] => Ok(None),
         [tag, low, high, after @ ..] => {
-            let length = u16::from_le_bytes([*low, *high]) as usize;
+            let length = usize::from(u16::from_le_bytes([*low, *high]));
             if after.len() < length {
                 return Err(Refusal::Broken);
             }

@@ -20,6 +20,7 @@ pub const LAST_SEGMENT: u16 = 0x80;
 pub fn is_set(flags: u16, bit: u16) -> bool
     ensures { result ≡ is_set flags bit }
 {
+    // Not `flags & bit != 0`: a bit that is no power of two is taken too, and of such the two differ, as of 1 and 3.
     if bit == 0 {
         return false;
     }

@@ -20,6 +20,7 @@ fn hex_digit(value: u8) -> u8
     }
 }
 
+#[tactic(auto, unfolding(crate::specs::Hexadecimal::digit_at))]
 fn digit_at(n: u32, place: usize) -> u8
     requires { place < 8 }
     ensures { result ≡ digit_at n place }
@@ -29,10 +30,12 @@ fn digit_at(n: u32, place: usize) -> u8
 }
 
 // Writes as many of a number's eight digits as there is room for to the front of out, and answers how many digits it has.
+#[tactic(auto, using(crate::proofs::Hexadecimal::length_hexadecimal))]
 pub fn write_hexadecimal(n: u32, out: &mut [u8]) -> usize
     ensures value { result ≡ length (hexadecimal n) }
     ensures out_after { out.new ≡ put (take (length out.old) (hexadecimal n)) out.old }
 {
+    // By index: of what is written through out.iter_mut().enumerate().take(8) the proof learns no digit (tried).
     for i in 0..out.len().min(HEXADECIMAL_DIGITS) {
         out[i] = digit_at(n, i);
     }

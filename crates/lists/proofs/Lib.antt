@@ -1,6 +1,5 @@
 pub mod Fold
 pub mod Count
-pub mod Every
 pub mod Indices
 pub mod Output
 pub mod Parts

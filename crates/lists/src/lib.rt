@@ -10,6 +10,7 @@ ghost use Rattle.lists.specs.Part.{leaves, only_if, part};
 pub fn get_or<T: Copy>(xs: &[T], place: usize, otherwise: T) -> T
     ensures { result ≡ get_or xs.now place otherwise }
 {
+    // Not get and unwrap_or: those ask T: Drop of callers.
     if place < xs.len() {
         xs[place]
     } else {
@@ -29,13 +30,14 @@ pub fn copy<T: Copy>(xs: &[T], out: &mut [T])
 pub fn front<T>(xs: &[T], n: usize) -> &[T]
     ensures { result.now ≡ take n xs.now }
 {
-    &xs[..n.min(xs.len())]
+    xs.get(..n).unwrap_or(xs)
 }
 
 // The part of so many elements from an offset on; empty where it would leave the buffer.
 pub fn part<T>(xs: &[T], offset: usize, count: usize) -> &[T]
     ensures { result.now ≡ part offset count xs.now }
 {
+    // Not get: whether the part is there is part_leaves, which callers ask too; get would need the sum tested first.
     if part_leaves(offset, count, xs.len()) {
         return &[];
     }
@@ -52,7 +54,8 @@ pub fn part_leaves(offset: usize, count: usize, size: usize) -> bool
     size - offset < count
 }
 
-// All of a slice, or none of it.
+// All of a slice, or none of it. The flag chooses a slice and no way through the code: callers ask whether they have an annotation,
+// and would make an Option of the slice by that same test.
 #[tactic(auto, unfolding(crate::specs::Part::only_if))]
 pub fn only_if<T>(kept: bool, xs: &[T]) -> &[T]
     ensures { result.now ≡ only_if kept xs.now }

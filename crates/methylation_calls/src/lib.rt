@@ -19,7 +19,7 @@ pub fn is_tracked(pattern: ConversionPattern, base: u8) -> bool
 pub fn is_called(pattern: ConversionPattern, base: u8, evidence: Evidence) -> bool
     ensures { result ≡ is_called pattern base evidence.mark evidence.unconverted evidence.converted }
 {
-    let counts = evidence.unconverted as u64 + evidence.converted as u64;
+    let counts = u64::from(evidence.unconverted) + u64::from(evidence.converted);
     is_tracked(pattern, base) & ((evidence.mark != 0) & (0 < counts))
 }
 
@@ -27,7 +27,7 @@ pub fn is_called(pattern: ConversionPattern, base: u8, evidence: Evidence) -> bo
 pub fn ml_of(mode: MethylationMode, unconverted: u32, converted: u32) -> u8
     ensures { result ≡ ml_of mode unconverted converted }
 {
-    let total = unconverted as u64 + converted as u64;
+    let total = u64::from(unconverted) + u64::from(converted);
     if total == 0 {
         return 0;
     }
@@ -36,6 +36,6 @@ pub fn ml_of(mode: MethylationMode, unconverted: u32, converted: u32) -> u8
         MethylationMode::EmSeq => unconverted,
         MethylationMode::Taps => converted,
     };
-    let parts = 256 * methylated as u64 / total;
+    let parts = 256 * u64::from(methylated) / total;
     parts.min(255) as u8
 }

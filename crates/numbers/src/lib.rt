@@ -9,13 +9,12 @@ ghost use Rattle.numbers.specs.Numbers.{largest, smallest};
 pub fn largest(ns: &[u16]) -> u16
     ensures { result ≡ largest ns.now }
 {
-    ns.iter().fold(0, |found, &n| found.max(n))
+    ns.iter().copied().max().unwrap_or(0)
 }
 
 // The smallest; 0 of none.
 pub fn smallest(ns: &[u16]) -> u16
     ensures { result ≡ smallest ns.now }
 {
-    let first = ns.first().copied().unwrap_or(0);
-    ns.iter().fold(first, |found, &n| found.min(n))
+    ns.iter().copied().min().unwrap_or(0)
 }

@@ -9,7 +9,7 @@ use mathlib.Core.List.{List, [], ◌∷◌}
 use Prim.Native.Nat.{ℕ, ◌≤◌}
 use borrow.Author.Tests.{ltb-false, le-ltb, eqb-true, not-false}
 use lib.Dec.{eqb, ltb}
-use Rattle.refusals.specs.Refusal.{any, too_long, too_many, ragged, too_short}
+use Rattle.refusals.specs.Refusal.{any, too_long, ragged, too_short}
 
 pub neither : (a b : Bool) → (a || b) ≡ false → (a ≡ false) × (b ≡ false)
 neither true b e = absurd (true≢false e)
@@ -39,9 +39,6 @@ any_false p P so (x ∷ (y ∷ ys)) e =
 
 pub not_too_long : (xs : List ℕ) → too_long xs ≡ false → Every (λ x. x ≤ 1024) xs
 not_too_long = any_false (λ x. ltb 1024 x) (λ x. x ≤ 1024) (λ x e. ltb-false 1024 x e)
-
-pub not_too_many : (xs : List ℕ) → too_many xs ≡ false → Every (λ x. x ≤ 1024) xs
-not_too_many = not_too_long
 
 pub not_ragged : (n : ℕ) (xs : List ℕ) → ragged (n ∷ xs) ≡ false → Every (λ x. x ≡ n) xs
 not_ragged n = any_false (λ x. not (eqb x n)) (λ x. x ≡ n) (λ x e. eqb-true x n (not-false (eqb x n) e))

@@ -14,6 +14,7 @@ use Rattle.std.proofs.Common.{Option, Some, None}
 use Rattle.refusals.specs.declared.Refusal.{Refusal}
 use Rattle.refusals.specs.declared.Refusal.TheVariants.{Broken, NoThresholds, TooManyThresholds, XyAboveTotal, YxAboveXy, TooLong, Ragged, TooManyReads, PartOutside, BelowLength, OutputTooShort, NoMi, NoStrand}
 use Rattle.refusals.specs.Refusal.{Fault, order, code, of_code, of_row, sorted, first, refused}
+use Rattle.refusals.specs.Outcome.{or_later}
 use Rattle.refusals.specs.Claims.{NumberedFrom1, Clear}
 
 pub numbered_from_1 : NumberedFrom1
@@ -60,11 +61,6 @@ first_clear [] e = tt
 first_clear (f ∷ fs) e =
     let (not_met, rest) = clear_here f.met f.row (first fs) e in
     (not_met, first_clear fs rest)
-
--- The first that there is.
-abbrev pub or_later : Option Refusal → Option Refusal → Option Refusal
-or_later None later = later
-or_later (Some row) later = Some row
 
 first_append : (fs gs : List Fault) → first (fs ++ gs) ≡ or_later (first fs) (first gs)
 first_append [] gs = refl

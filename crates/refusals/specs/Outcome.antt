@@ -1,4 +1,4 @@
--- What a call answers, and what it leaves in a lent output, by its refusal.
+-- What a call answers, and what it leaves in a lent output, by its refusal, and which of two refusals it answers.
 use Rattle.std.specs.Prelude.{Bool, cond, Option, Some, None, Result, Ok, Err, List}
 use Rattle.lists.specs.Output.{put}
 use Rattle.refusals.specs.declared.Refusal.{Refusal}
@@ -13,6 +13,11 @@ module _ {A : Type 0} where
   abbrev pub after : Option Refusal → List A → List A → List A
   after None xs out = put xs out
   after (Some row) xs out = out
+
+-- Of two refusals the first that there is.
+abbrev pub or_later : {Row : Type 0} → Option Row → Option Row → Option Row
+or_later None later = later
+or_later (Some row) later = Some row
 
 -- One test of a call.
 abbrev pub refused_if : Bool → Refusal → Result (Unit {0}) Refusal

@@ -103,3 +103,7 @@ refused fs = first (sorted order fs)
 abbrev pub number_or_0 : Option Refusal → ℕ
 number_or_0 None = 0
 number_or_0 (Some row) = number_of row
+
+-- Row 7's condition for a record of n positions, by how many elements an array of each strand has.
+abbrev pub record_too_long : ℕ → ℕ → ℕ → Bool
+record_too_long n a b = too_long (n ∷ a ∷ b ∷ [])

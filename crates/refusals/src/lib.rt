@@ -3,7 +3,7 @@
 #![tactic(auto)]
 
 ghost use Rattle.std.specs.Prelude.{◌≡◌};
-ghost use Rattle.refusals.specs.Refusal.{number_of};
+ghost use Rattle.refusals.specs.Refusal.{number_of, record_too_long};
 ghost use Rattle.refusals.specs.Outcome.{refused_if};
 
 // Why a call is refused: a row of the table, with the number that C sees for it.
@@ -46,6 +46,15 @@ impl Refusal {
     }
 }
 
+// The same for `?`, where a refusal is answered by its number.
+impl From<Refusal> for u8 {
+    ghost from_gives = { λ refusal number. number ≡ number_of refusal };
+
+    fn from(refusal: Refusal) -> Self {
+        refusal.number()
+    }
+}
+
 // The most positions of a strand or a record.
 pub const MAX_POSITIONS: usize = 1024;
 
@@ -57,4 +66,11 @@ pub fn refuse(met: bool, refusal: Refusal) -> Result<(), Refusal>
     ensures { result ≡ refused_if met refusal }
 {
     if met { Err(refusal) } else { Ok(()) }
+}
+
+// Row 7's condition for a record of so many positions, by how many elements an array of each strand has.
+pub fn record_too_long(positions: usize, a: usize, b: usize) -> bool
+    ensures { result ≡ record_too_long positions a b }
+{
+    (MAX_POSITIONS < positions) | ((MAX_POSITIONS < a) | (MAX_POSITIONS < b))
 }

@@ -1,22 +1,12 @@
--- `duplex_depths::write_combined` meets its contract: its loop, the copy and the zeros stand one behind the other. Assumes nothing.
+-- `duplex_depths::write_combined` meets its contract: what its loop, the copy and the zeros wrote stands one behind the other. Assumes nothing.
 use mathlib.Core.Path.{ap, sym, ◌∙◌}
 use mathlib.Core.List.{List}
 use Prim.Native.Nat.{ℕ, ◌+◌, ◌-◌}
 use native.Mathlib.Omega.{arith}
 use lib.ListN.{length, get_or}
-use Rattle.lists.proofs.Told.{begin_table, next_table}
-use Rattle.numbers.specs.Numbers.{saturating_add}
 use Rattle.duplex_depths.specs.Depths.{combined_depths}
 use Rattle.duplex_depths.proofs.Depths.{neither, longer_alone, longer_length, copied, filled, at_place, all_put}
 use Rattle.duplex_depths.proofs.write_combined.Goals as goal
-
-pub loop-i-init : goal.loop-i-init
-loop-i-init c = begin_table _ c.requires
-
-pub loop-i-preserved : goal.loop-i-preserved
-unfolding saturating_add
-loop-i-preserved c =
-    next_table _ _ c.loop-i.invariant (omega arith) c.saturating_add.ensures
 
 pub returns : goal.returns
 unfolding combined_depths

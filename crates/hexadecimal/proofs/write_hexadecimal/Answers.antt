@@ -1,5 +1,5 @@
 -- `hexadecimal::write_hexadecimal` meets its contract: its loop fills the front of the output with the digits. Assumes nothing.
-use mathlib.Core.Path.{sym, ◌∙◌}
+use mathlib.Core.Path.{◌∙◌}
 use Prim.Native.Nat.{◌<◌}
 use native.Mathlib.Omega.{arith}
 use Rattle.lists.proofs.Output.{begin_copy, next_copy}
@@ -14,6 +14,3 @@ pub loop-i-preserved : goal.loop-i-preserved
 loop-i-preserved c =
     let few : c.loop-i.i < 8 = omega (arith, length_hexadecimal c.args.n) in
     rw (c.digit_at.ensures ∙ digit_is _ _ few) (next_copy 0 c.loop-i.invariant c.loop-i-test.true)
-
-pub returns-clause-value : goal.returns-clause-value
-returns-clause-value c = sym (length_hexadecimal c.args.n)

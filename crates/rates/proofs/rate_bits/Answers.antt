@@ -1,14 +1,7 @@
 -- `rates::rate_bits` meets its contract: no rate is a NaN. Assumes nothing.
-use borrow.Author.Rules.{rules}
 use native.Mathlib.Omega.{arith}
 use Rattle.rates.proofs.Rates.{number}
 use Rattle.rates.proofs.rate_bits.Goals as goal
 
-pub error_rate-requires : goal.error_rate-requires
-error_rate-requires c = search rules
-
 pub float_to_bits-result : goal.float_to_bits-result
 float_to_bits-result c = rw c.error_rate.ensures (number c.args.errors c.args.depth (omega arith) (omega arith))
-
-pub returns : goal.returns
-returns c = rw c.error_rate.ensures
