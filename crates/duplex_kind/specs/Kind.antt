@@ -1,12 +1,13 @@
 -- Which record two strands make, document 01.
-use Rattle.std.specs.Prelude.{Option, Some, None, Result, ℕ, min, Bool, true, false, cond, ◌&&◌, ◌||◌, ltb, length, take, fold}
+use Rattle.std.specs.Prelude.{Option, Some, None, Result, ℕ, min, Bool, true, false, cond, ◌&&◌, ◌||◌, ltb, length, take}
+use Rattle.std.specs.List.{list_any}
 use mathlib.Core.List.{List, [], ◌∷◌}
 use Rattle.refusals.specs.declared.Refusal.{Refusal}
 use Rattle.refusals.specs.declared.Refusal.TheVariants.{TooLong, Ragged, TooManyReads, PartOutside}
 use Rattle.refusals.specs.Refusal.{Fault, ◌if◌, too_many, refused}
 use Rattle.refusals.specs.Outcome.{answer}
 use Rattle.methylation.specs.Methylation.{is_annotated}
-use Rattle.vanilla_caller.specs.Strand.{Arrays, arrays, arrays_in, lengths, strand_too_long, strand_ragged}
+use Rattle.vanilla_caller.specs.Strand.{Arrays, arrays, annotation_in, arrays_in, lengths, strand_too_long, strand_ragged}
 use Rattle.vanilla_caller.specs.declared.Lengths.{Lengths}
 use Rattle.vanilla_caller.specs.declared.VanillaConsensusRead.{VanillaConsensusRead}
 use Rattle.duplex_kind.specs.declared.DuplexConsensus.{DuplexConsensus}
@@ -27,7 +28,7 @@ strand present annotation arrays = record { present = present; annotation = anno
 -- As lent slices, where it is there.
 abbrev pub given_of : Option VanillaConsensusRead → Strand
 given_of None = strand false None (arrays [] [] [] [] [] [] [])
-given_of (Some s) = strand true s.annotation (arrays_in s)
+given_of (Some s) = strand true (annotation_in s) (arrays_in s)
 
 -- What its lengths and depths say: all that the rows over what is given and the kind look at.
 pub record Given : Type 0 where
@@ -69,11 +70,8 @@ abbrev pub record_length : Strand → Strand → ℕ
 record_length a b = shorter_present (given a) (given b)
 
 -- Some depth is above 0.
-abbrev pub still_met : Bool → ℕ → Bool
-still_met met depth = met || ltb 0 depth
-
 abbrev pub some_depth : List ℕ → Bool
-some_depth depths = fold still_met false depths
+some_depth depths = list_any (ltb 0) depths
 
 -- A strand counts only if some depth within the record's length is above 0.
 abbrev pub counts : ℕ → Given → Bool

@@ -45,7 +45,7 @@ pub fn given_strand<'a>(s: Option<VanillaConsensusRead<'a>>) -> Option<GivenStra
     })
 }
 
-// The length of a record: the shorter of the strands present.
+// The length of a record: the shorter of the strands present. A and B are the two operands, as the caller has them.
 fn record_length(a: Option<GivenStrand>, b: Option<GivenStrand>) -> usize
     ensures { result ≡ shorter_present (given_in a.entry) (given_in b.entry) }
 {
@@ -61,7 +61,7 @@ fn record_length(a: Option<GivenStrand>, b: Option<GivenStrand>) -> usize
 fn is_covered(depths: &[u16]) -> bool
     ensures { result ≡ some_depth depths.now }
 {
-    depths.iter().fold(false, |met, &depth| met | (0 < depth))
+    depths.iter().any(|&depth| 0 < depth)
 }
 
 // The record's kind, once its strands are known to be of one length each.

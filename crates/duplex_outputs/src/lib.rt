@@ -18,8 +18,8 @@ pub struct RecordOutputs<'a> {
     pub errors: &'a mut [u16],
 }
 
-// How many places each output has: the record's own, and those of the evidence of A and of B, each where its strand is annotated:
-// without an annotation they are not looked at.
+// How many places each output has: the record's own, and those of the evidence of A and of B, which each caller has as two; each where
+// its strand is annotated: without an annotation they are not looked at.
 #[derive(Clone, Copy)]
 pub struct RecordLengths {
     pub bases: usize,

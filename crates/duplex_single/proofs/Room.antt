@@ -2,8 +2,8 @@
 --     turned_down                  refused: every output is as it was
 --     passed, has_room, written    not refused: each output has room for its array, and holds it
 -- Assumes nothing.
-use mathlib.Core.Path.{◌≡◌, refl, sym, ◌∙◌}
-use mathlib.Core.Bool.{Bool, true, false, cond}
+use mathlib.Core.Path.{◌≡◌, sym, ◌∙◌}
+use mathlib.Core.Bool.{true}
 use Prim.Native.Nat.{ℕ, ◌≤◌}
 use native.Mathlib.Omega.{arith}
 use lib.ListN.{length}
@@ -13,7 +13,6 @@ use Rattle.refusals.specs.Refusal.{refused}
 use Rattle.refusals.specs.Outcome.{answer}
 use Rattle.refusals.proofs.Claims.{none_lost}
 use Rattle.refusals.proofs.Outcome.{refused_by, passed_by}
-use Rattle.methylation.specs.Arrays.{evidence_places}
 use Rattle.methylation.specs.Methylation.{is_annotated}
 use Rattle.methylation.specs.declared.ConversionPattern.{ConversionPattern}
 use Rattle.duplex_outputs.specs.declared.RecordLengths.{RecordLengths}
@@ -25,21 +24,13 @@ use Rattle.duplex_outputs.proofs.Outputs.{roomy, record_refused, record_passed, 
 use Rattle.duplex_single.specs.Single.{single_arrays, single_faults, single_refused, SingleAs}
 
 module _ (annotation : Option ConversionPattern) (s : Arrays) (out : RecordArrays) where
-  -- How many places of evidence are written.
-  abbrev pub places : ℕ
-  places = evidence_places annotation (length s.bases)
-
   pub record Room : Type 0 where
     pub bases : length s.bases ≤ length out.bases
     pub quals : length s.quals ≤ length out.quals
     pub errors : length s.errors ≤ length out.errors
-    pub marks : (places ≤ length s.evidence.marks) × (places ≤ length out.a.marks)
-    pub unconverted : (places ≤ length s.evidence.unconverted) × (places ≤ length out.a.unconverted)
-    pub converted : (places ≤ length s.evidence.converted) × (places ≤ length out.a.converted)
-
-  places_fit : (b : Bool) (n x : ℕ) → (b ≡ true → n ≤ x) → cond b n 0 ≤ x
-  places_fit true n x h = h refl
-  places_fit false n x h = omega arith
+    pub marks : is_annotated annotation ≡ true → (length s.bases ≤ length s.evidence.marks) × (length s.bases ≤ length out.a.marks)
+    pub unconverted : is_annotated annotation ≡ true → (length s.bases ≤ length s.evidence.unconverted) × (length s.bases ≤ length out.a.unconverted)
+    pub converted : is_annotated annotation ≡ true → (length s.bases ≤ length s.evidence.converted) × (length s.bases ≤ length out.a.converted)
 
   room : single_refused annotation s out ≡ None → Room
   room z =
@@ -49,14 +40,13 @@ module _ (annotation : Option ConversionPattern) (s : Arrays) (out : RecordArray
       let enough = roomy n annotation None out clear.1.1.0 in
       let there = same.evidence in
       let lent = enough.a in
-      let fit = places_fit (is_annotated annotation) n in
       record {
         bases = enough.own.0;
         quals = omega (arith, same.own.0, enough.own.1.0);
         errors = omega (arith, same.own.1.1.0, enough.own.1.1.0);
-        marks = (fit _ (λ k. omega (arith, (there k).0)), fit _ (λ k. (lent k).0));
-        unconverted = (fit _ (λ k. omega (arith, (there k).1.0)), fit _ (λ k. (lent k).1.0));
-        converted = (fit _ (λ k. omega (arith, (there k).1.1.0)), fit _ (λ k. (lent k).1.1.0));
+        marks = λ k. (omega (arith, (there k).0), (lent k).0);
+        unconverted = λ k. (omega (arith, (there k).1.0), (lent k).1.0);
+        converted = λ k. (omega (arith, (there k).1.1.0), (lent k).1.1.0);
       }
 
 -- By the lengths that the code has of the strand and of its outputs.

@@ -1,1 +1,2 @@
 pub mod Single
+pub mod Absent

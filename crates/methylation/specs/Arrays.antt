@@ -1,5 +1,5 @@
 -- An annotation's evidence as arrays, document 01: per position an informative mark (0 no, any other byte yes) and two counts.
-use Rattle.std.specs.Prelude.{ℕ, ◌≡◌, Bool, not, cond, Option, Some, List, [], ◌∷◌, eqb, length, take}
+use Rattle.std.specs.Prelude.{ℕ, ◌≡◌, ◌≤◌, Bool, not, cond, Option, Some, List, [], ◌∷◌, eqb, length, take}
 use Rattle.std.specs.Option.{option_and}
 use Rattle.lists.specs.Output.{put}
 use Rattle.lists.specs.Part.{only_if}
@@ -40,6 +40,10 @@ evidence_places annotation n = cond (is_annotated annotation) n 0
 -- The first n places of each array.
 abbrev pub evidence_fronts : ℕ → EvidenceArrays → EvidenceArrays
 evidence_fronts n e = evidence_arrays (take n e.marks) (take n e.unconverted) (take n e.converted)
+
+-- Each array has n places, or more.
+abbrev pub HasPlaces : ℕ → EvidenceArrays → Type 0
+HasPlaces n e = (n ≤ length e.marks) × (n ≤ length e.unconverted) × (n ≤ length e.converted)
 
 -- How long each is.
 abbrev pub evidence_lengths : EvidenceArrays → EvidenceLengths

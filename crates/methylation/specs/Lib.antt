@@ -1,3 +1,4 @@
+pub mod Annotation
 pub mod Arrays
 pub mod Choices
 pub mod Methylation

@@ -4,8 +4,9 @@
 
 ghost use Rattle.std.specs.Prelude.{◌≡◌};
 ghost use Rattle.methylation.specs.Choices.{pattern_number, pattern_of, wrong_pattern, pattern_in, mode_of, wrong_mode, mode_in};
-ghost use Rattle.methylation.specs.Arrays.{evidence_in, evidence_places, evidence_lengths, evidence_of_length, evidence_fronts, evidence_too_long, evidence_ragged, evidence_uneven, evidence_too_short};
-ghost use Rattle.methylation.specs.Outputs.{evidence_out};
+ghost use Rattle.methylation.specs.Arrays.{evidence_arrays, evidence_in, evidence_places, evidence_lengths, evidence_of_length, evidence_fronts, evidence_too_long, evidence_ragged, evidence_uneven, evidence_too_short};
+ghost use Rattle.methylation.specs.Outputs.{evidence_out, no_evidence};
+ghost use Rattle.methylation.specs.Annotation.{pattern_held, evidence_held, evidence_seen};
 ghost use Rattle.methylation.specs.Methylation.{is_enabled, pattern_of_flags, pattern_bases, is_annotated, is_cg, is_cpg_context, evidence_if};
 
 use dna::eq_ignore_ascii_case;
@@ -85,14 +86,14 @@ impl ConversionPattern {
     }
 }
 
-// Whether a number stands for no pattern.
+// Whether a number stands for no pattern. This and `pattern_of` are promised so and cannot fail: TryFrom is made of the two.
 pub fn wrong_pattern(number: u8) -> bool
     ensures { result ≡ wrong_pattern number }
 {
     (number == 0) | (2 < number)
 }
 
-// 1: C to T; any other number: G to A.
+// 1: C to T; any other number: G to A. Promised for every number, as `wrong_pattern` is.
 pub fn pattern_of(number: u8) -> ConversionPattern
     ensures { result ≡ pattern_of number }
 {
@@ -113,14 +114,14 @@ impl TryFrom<u8> for ConversionPattern {
     }
 }
 
-// Whether a number stands for no mode.
+// Whether a number stands for no mode. This and `mode_of` are promised so and cannot fail: TryFrom is made of the two.
 pub fn wrong_mode(number: u8) -> bool
     ensures { result ≡ wrong_mode number }
 {
     2 < number
 }
 
-// 0: Disabled; 1: EM-Seq; any other number: TAPs.
+// 0: Disabled; 1: EM-Seq; any other number: TAPs. Promised for every number, as `wrong_mode` is.
 pub fn mode_of(number: u8) -> MethylationMode
     ensures { result ≡ mode_of number }
 {
@@ -150,7 +151,8 @@ pub struct Evidence {
     pub converted: u32,
 }
 
-// The evidence of an annotation as lent slices: a mark and two counts for each position.
+// The evidence of an annotation as lent slices: a mark and two counts for each position. Three slices and not one of `Evidence`, as
+// the callers from C lend three arrays, and loops over the marks alone go 16 at once.
 #[derive(Clone, Copy)]
 pub struct EvidenceSlices<'a> {
     pub marks: &'a [u8],
@@ -158,7 +160,15 @@ pub struct EvidenceSlices<'a> {
     pub converted: &'a [u32],
 }
 
-// The outputs for an annotation's evidence. A function that is lent them keeps each slice where it is (specs/Outputs.antt).
+// An annotation: the pattern of a strand's conversions, and its evidence.
+#[derive(Clone, Copy)]
+pub struct MethylationAnnotation<'a> {
+    pub pattern: ConversionPattern,
+    pub evidence: EvidenceSlices<'a>,
+}
+
+// The outputs for an annotation's evidence, three slices as those of `EvidenceSlices`. A function that is lent them keeps each slice
+// where it is (specs/Outputs.antt).
 #[derive(Drop)]
 pub struct EvidenceOutputs<'a> {
     pub marks: &'a mut [u8],
@@ -181,7 +191,7 @@ fn is_cg(first: u8, second: u8) -> bool
 }
 
 // Whether a position of the reference is in a CpG: on the top strand a C followed by a G, on the bottom strand a G after a C,
-// in any case.
+// in any case. `is_top_strand` is the Rust's own parameter.
 pub fn is_cpg_context(ref_seq: &[u8], pos: usize, is_top_strand: bool) -> bool
     ensures { result ≡ is_cpg_context ref_seq.now pos is_top_strand }
 {
@@ -201,7 +211,8 @@ pub fn is_cpg_context(ref_seq: &[u8], pos: usize, is_top_strand: bool) -> bool
     is_cg(ref_seq[pos - 1], ref_seq[pos])
 }
 
-// Evidence as a record holds it: marked and with its counts where it is kept, clear where not.
+// Evidence as a record holds it: marked and with its counts where it is kept, clear where not. The flag chooses a value and no way
+// through the code: callers have a mark, of which they would make an Option by that same test.
 pub fn evidence_if(kept: bool, unconverted: u32, converted: u32) -> Evidence
     ensures { result ≡ evidence_if kept unconverted converted }
 {
@@ -219,7 +230,8 @@ pub fn evidence_if(kept: bool, unconverted: u32, converted: u32) -> Evidence
     }
 }
 
-// How many places of evidence are written, of n positions: all, or none without an annotation.
+// How many places of evidence are written, of n positions: all, or none without an annotation. Of the annotation only whether there is
+// one counts; callers hand on the `Option` that they hold.
 pub fn evidence_places(annotation: Option<ConversionPattern>, n: usize) -> usize
     ensures { result ≡ evidence_places annotation n }
 {
@@ -239,7 +251,38 @@ impl EvidenceLengths {
     }
 }
 
+impl<'a> MethylationAnnotation<'a> {
+    // Evidence counts with a pattern alone.
+    pub fn of(
+        pattern: Option<ConversionPattern>,
+        evidence: EvidenceSlices<'a>,
+    ) -> Option<MethylationAnnotation<'a>>
+        ensures pattern { pattern_held result ≡ pattern }
+        ensures evidence { evidence_held result ≡ evidence_seen pattern (evidence_in evidence.entry) }
+    {
+        let pattern = pattern?;
+        Some(MethylationAnnotation { pattern, evidence })
+    }
+}
+
 impl<'a> EvidenceSlices<'a> {
+    pub fn new(marks: &'a [u8], unconverted: &'a [u32], converted: &'a [u32]) -> EvidenceSlices<'a>
+        ensures { evidence_in result ≡ evidence_arrays marks.now unconverted.now converted.now }
+    {
+        EvidenceSlices {
+            marks,
+            unconverted,
+            converted,
+        }
+    }
+
+    // That of no annotation.
+    pub fn none() -> EvidenceSlices<'a>
+        ensures { evidence_in result ≡ no_evidence }
+    {
+        EvidenceSlices::new(&[], &[], &[])
+    }
+
     // The first n places of each array, or all where there are fewer.
     pub fn front(self, n: usize) -> EvidenceSlices<'a>
         ensures { evidence_in result ≡ evidence_fronts n (evidence_in self.entry) }
@@ -291,6 +334,7 @@ pub fn evidence_too_short(n: usize, out: EvidenceLengths) -> bool
 }
 
 impl EvidenceOutputs<'_> {
+    // Not by that of `EvidenceSlices`: to read the outputs as such would name each of the three once more.
     pub fn lengths(&self) -> EvidenceLengths
         ensures { result ≡ evidence_lengths (evidence_out self.now) }
     {

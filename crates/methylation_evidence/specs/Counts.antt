@@ -4,7 +4,7 @@ use Rattle.lists.specs.Table.{tabulate}
 use Rattle.numbers.specs.Numbers.{saturating_add}
 use Rattle.refusals.specs.declared.Refusal.{Refusal}
 use Rattle.refusals.specs.declared.Refusal.TheVariants.{TooLong, OutputTooShort}
-use Rattle.refusals.specs.Refusal.{Fault, ◌if◌, too_long, too_short, refused}
+use Rattle.refusals.specs.Refusal.{Fault, ◌if◌, too_long, record_too_long, too_short, refused}
 
 -- A count in a tag, held to 32,767, the largest number of i16.
 abbrev pub tag_count : ℕ → ℕ
@@ -35,7 +35,7 @@ summed_counts n a b = tabulate n (summed_count a b)
 -- By how many positions there are, and the lengths of the two arrays and of the output.
 abbrev pub summed_faults : ℕ → ℕ → ℕ → ℕ → List Fault
 summed_faults n a b out =
-    (TooLong if too_long (n ∷ a ∷ b ∷ []))
+    (TooLong if record_too_long n a b)
     ∷ (OutputTooShort if too_short n (out ∷ []))
     ∷ []
 

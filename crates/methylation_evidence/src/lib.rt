@@ -18,7 +18,7 @@ use methylation::{
     EvidenceOutputs, EvidenceSlices, evidence_if, evidence_ragged, evidence_too_long,
     evidence_too_short,
 };
-use refusals::{MAX_POSITIONS, Refusal, refuse};
+use refusals::{MAX_POSITIONS, Refusal, record_too_long, refuse};
 use vanilla_caller::mark_of;
 
 // The largest count of a tag: that of i16. No count is below zero, so u16 stands for i16.
@@ -51,10 +51,8 @@ pub fn gate_to_informative(out: &mut EvidenceOutputs<'_>) -> Result<usize, Refus
 pub fn copy_marks(marks: &[u8], out: &mut [u8])
     ensures { out.new ≡ put (take (length out.old) (map mark marks.now)) out.old }
 {
-    let n = out.len().min(marks.len());
-    // By index: a loop over the first n marks would cut them, and index the output all the same.
-    for i in 0..n {
-        out[i] = mark_of(marks[i]);
+    for (i, &mark) in front(marks, out.len()).iter().enumerate() {
+        out[i] = mark_of(mark);
     }
 }
 
@@ -108,6 +106,8 @@ pub use self::{tag_counts as converted_counts, tag_counts as unconverted_counts}
 // The unconverted, or the converted, counts of two annotations summed over a sequence of so many positions: each sum held to
 // 4,294,967,295, and then to 32,767. An array that ends before a position counts 0 there, an empty one everywhere. Answers how
 // many are written. Refuses by 7, 12.
+// No struct of positions, a and b, here and where it is called: it would be made anew for each call, once of unconverted counts and once
+// of converted ones.
 #[tactic(auto, using(lists::proofs::Output::begin, crate::proofs::Counts::summed_length))]
 pub fn summed_counts(
     positions: usize,
@@ -118,9 +118,10 @@ pub fn summed_counts(
     ensures value { result ≡ answer (summed_refused positions a.now b.now out.old) positions }
     ensures out_after { out.new ≡ after (summed_refused positions a.now b.now out.old) (summed_counts positions a.now b.now) out.old }
 {
-    let too_long = (MAX_POSITIONS < positions)
-        | ((MAX_POSITIONS < a.len()) | (MAX_POSITIONS < b.len()));
-    refuse(too_long, Refusal::TooLong)?;
+    refuse(
+        record_too_long(positions, a.len(), b.len()),
+        Refusal::TooLong,
+    )?;
     refuse(out.len() < positions, Refusal::OutputTooShort)?;
     // By index: either array may end before the position.
     for i in 0..positions {

@@ -85,7 +85,7 @@ impl From<Result<bool, Refusal>> for Number {
 }
 
 // Whether a number stands for no annotation and no absence of one.
-// Beside annotation_in, since entries promise by it when they refuse (RepliedAs).
+// The number is C's, and its test a promise of its own: entries refuse by it (RepliedAs).
 pub fn wrong_annotation(number: u8) -> bool
     ensures { result ≡ wrong_annotation number }
 {
@@ -93,7 +93,7 @@ pub fn wrong_annotation(number: u8) -> bool
 }
 
 // 0: no annotation; 1: C to T; any other number: G to A.
-// Beside annotation_in, since the number of a strand that is absent is not tested.
+// The number is C's. Beside annotation_in: it is promised so, of any number, and cannot fail.
 pub fn annotation_of(number: u8) -> Option<ConversionPattern>
     ensures { result ≡ annotation_of number }
 {

@@ -61,18 +61,10 @@ pub extern "C" fn gedrashiw_padded(
         Ok(annotation) => annotation,
         Err(refusal) => return Number::from(refusal),
     };
-    let strand = VanillaConsensusRead {
-        bases,
-        quals,
-        depths,
-        errors,
-        annotation,
-        evidence: EvidenceSlices {
-            marks,
-            unconverted,
-            converted,
-        },
-    };
+    let evidence = EvidenceSlices::new(marks, unconverted, converted);
+    let strand = VanillaConsensusRead::new(bases, quals, depths, errors).annotated(
+        annotation, evidence,
+    );
     let mut out = StrandOutputs {
         bases: bases_out,
         quals: quals_out,

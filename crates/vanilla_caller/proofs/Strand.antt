@@ -2,8 +2,10 @@
 --     leaves_refused     refused: every output is as it was
 --     leaves_passed      not refused: every output has its array written to its front
 --     even, roomy        what rows 8 and 12 leave
+--     lent_as            a strand that was lent beside its evidence
+--     lengths_seen       what is looked at is as long
 -- Assumes nothing.
-use mathlib.Core.Path.{◌≡◌, refl}
+use mathlib.Core.Path.{◌≡◌, refl, ap, ◌∙◌}
 use Rattle.std.proofs.Common.{Option, Some, None}
 use mathlib.Core.Bool.{true, false}
 use mathlib.Core.List.{[], ◌∷◌}
@@ -13,11 +15,27 @@ use Rattle.lists.specs.Output.{put}
 use Rattle.refusals.specs.declared.Refusal.{Refusal}
 use Rattle.refusals.specs.Refusal.{ragged, too_short}
 use Rattle.refusals.proofs.Condition.{Every, neither, not_ragged, not_too_short}
-use Rattle.methylation.specs.Arrays.{three, evidence_lengths, evidence_uneven, evidence_too_short, PutsEvidence}
+use Rattle.methylation.specs.Arrays.{EvidenceArrays, evidence_in, three, evidence_lengths, evidence_uneven, evidence_too_short, PutsEvidence}
 use Rattle.methylation.specs.Methylation.{is_annotated}
 use Rattle.methylation.specs.declared.ConversionPattern.{ConversionPattern}
+use Rattle.methylation.specs.declared.EvidenceSlices.{EvidenceSlices}
 use Rattle.methylation.proofs.Arrays.{evidence_refused, evidence_put, as_many_as, where_annotated}
-use Rattle.vanilla_caller.specs.Strand.{Arrays, lengths, four, strand_ragged, outputs_too_short, Leaves}
+use Rattle.vanilla_caller.specs.declared.VanillaConsensusRead.{VanillaConsensusRead}
+use Rattle.vanilla_caller.specs.Strand.{Arrays, arrays_in, with_evidence, arrays_seen, lengths, four, strand_ragged, outputs_too_short, Leaves}
+
+-- A strand s that is t with an annotation, by the arrays of t and of the evidence that was lent.
+pub lent_as :
+    (annotation : Option ConversionPattern) (s t : VanillaConsensusRead) (e : EvidenceSlices) {x : Arrays} {y : EvidenceArrays}
+    → arrays_in s ≡ arrays_seen annotation (with_evidence (arrays_in t) (evidence_in e))
+    → arrays_in t ≡ x
+    → evidence_in e ≡ y
+    → arrays_in s ≡ arrays_seen annotation (with_evidence x y)
+lent_as annotation s t e {x} h f g = h ∙ ap (λ (z : Arrays). arrays_seen annotation (with_evidence z (evidence_in e))) f ∙ ap (λ (z : EvidenceArrays). arrays_seen annotation (with_evidence x z)) g
+
+-- Evidence without an annotation has no part in the lengths.
+pub lengths_seen : (annotation : Option ConversionPattern) (a : Arrays) → lengths annotation (arrays_seen annotation a) ≡ lengths annotation a
+lengths_seen None a = refl
+lengths_seen (Some pattern) a = refl
 
 pub leaves_refused : (row : Refusal) (written before : Arrays) → Leaves (Some row) written before before
 leaves_refused row written before = record {

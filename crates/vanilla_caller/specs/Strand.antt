@@ -1,10 +1,11 @@
 -- A strand, document 01: bases, qualities, depths and errors, and perhaps an annotation.
-use Rattle.std.specs.Prelude.{ℕ, ◌≡◌, Bool, false, cond, ◌||◌, Option, List, [], ◌∷◌, eqb, length}
+use Rattle.std.specs.Prelude.{ℕ, ◌≡◌, Bool, false, cond, ◌||◌, Option, None, List, [], ◌∷◌, eqb, length}
 use Rattle.std.specs.Option.{option_map_or}
 use Rattle.refusals.specs.declared.Refusal.{Refusal}
 use Rattle.refusals.specs.Refusal.{too_long, ragged, too_short}
 use Rattle.refusals.specs.Outcome.{after}
-use Rattle.methylation.specs.Arrays.{EvidenceArrays, evidence_arrays, evidence_in, annotated_lengths, evidence_too_long, evidence_uneven, evidence_too_short, LeavesEvidence}
+use Rattle.methylation.specs.Annotation.{pattern_held, evidence_held, evidence_seen}
+use Rattle.methylation.specs.Arrays.{EvidenceArrays, evidence_arrays, annotated_lengths, evidence_too_long, evidence_uneven, evidence_too_short, LeavesEvidence}
 use Rattle.methylation.specs.declared.ConversionPattern.{ConversionPattern}
 use Rattle.vanilla_caller.specs.declared.Lengths.{Lengths}
 use Rattle.vanilla_caller.specs.declared.VanillaConsensusRead.{VanillaConsensusRead}
@@ -20,9 +21,24 @@ pub record Arrays : Type 0 where
 abbrev pub arrays : List ℕ → List ℕ → List ℕ → List ℕ → List ℕ → List ℕ → List ℕ → Arrays
 arrays b q d e m u c = record { bases = b; quals = q; depths = d; errors = e; evidence = evidence_arrays m u c }
 
--- Those that are lent.
+-- Of a strand that is lent its annotation, and its arrays: evidence is that of its annotation.
+abbrev pub annotation_in : VanillaConsensusRead → Option ConversionPattern
+annotation_in r = pattern_held r.methylation
+
 abbrev pub arrays_in : VanillaConsensusRead → Arrays
-arrays_in r = record { bases = r.bases.now; quals = r.quals.now; depths = r.depths.now; errors = r.errors.now; evidence = evidence_in r.evidence }
+arrays_in r = record { bases = r.bases.now; quals = r.quals.now; depths = r.depths.now; errors = r.errors.now; evidence = evidence_held r.methylation }
+
+-- Without its annotation.
+abbrev pub plain : VanillaConsensusRead → VanillaConsensusRead
+plain r = record { bases = r.bases; quals = r.quals; depths = r.depths; errors = r.errors; methylation = None }
+
+-- The arrays of a strand beside this evidence.
+abbrev pub with_evidence : Arrays → EvidenceArrays → Arrays
+with_evidence a e = record { bases = a.bases; quals = a.quals; depths = a.depths; errors = a.errors; evidence = e }
+
+-- What is looked at of the arrays that are lent beside an annotation, or beside none.
+abbrev pub arrays_seen : Option ConversionPattern → Arrays → Arrays
+arrays_seen annotation a = with_evidence a (evidence_seen annotation a.evidence)
 
 -- How long they are, with this annotation or none.
 abbrev pub lengths : Option ConversionPattern → Arrays → Lengths

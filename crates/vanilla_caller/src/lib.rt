@@ -2,29 +2,30 @@
 // an annotation's evidence), what refuses it, and its depths. Uses lists, refusals, numbers and methylation.
 #![tactic(auto)]
 
-ghost use Rattle.std.specs.Prelude.{◌≡◌};
+ghost use Rattle.std.specs.Prelude.{◌≡◌, None, []};
 ghost use Rattle.vanilla_caller.specs.Depth.{max_depth, min_depth};
-ghost use Rattle.vanilla_caller.specs.Strand.{arrays_in, lengths, mark, strand_too_long, strand_ragged, outputs_too_short};
+ghost use Rattle.methylation.specs.Annotation.{evidence_held};
+ghost use Rattle.methylation.specs.Arrays.{evidence_in};
+ghost use Rattle.vanilla_caller.specs.Strand.{arrays, annotation_in, arrays_in, with_evidence, arrays_seen, plain, lengths, mark, strand_too_long, strand_ragged, outputs_too_short};
 
 use methylation::{
-    ConversionPattern, EvidenceLengths, EvidenceSlices, evidence_too_long, evidence_too_short,
-    evidence_uneven,
+    ConversionPattern, EvidenceLengths, EvidenceSlices, MethylationAnnotation, evidence_too_long,
+    evidence_too_short, evidence_uneven,
 };
 use numbers::{largest, smallest};
 use refusals::{MAX_POSITIONS, Refusal, refuse};
 
-// A strand as lent slices. Its evidence is looked at where there is an annotation.
+// A strand as lent slices.
 #[derive(Clone, Copy)]
 pub struct VanillaConsensusRead<'a> {
     pub bases: &'a [u8],
     pub quals: &'a [u8],
     pub depths: &'a [u16],
     pub errors: &'a [u16],
-    pub annotation: Option<ConversionPattern>,
-    pub evidence: EvidenceSlices<'a>,
+    pub methylation: Option<MethylationAnnotation<'a>>,
 }
 
-// How long each array of a strand is, its evidence's where there is an annotation: without one they are not looked at.
+// How long each array of a strand is, its evidence's where there is an annotation.
 #[derive(Clone, Copy)]
 pub struct Lengths {
     pub bases: usize,
@@ -34,16 +35,77 @@ pub struct Lengths {
     pub evidence: Option<EvidenceLengths>,
 }
 
-impl VanillaConsensusRead<'_> {
+impl<'a> VanillaConsensusRead<'a> {
+    // A strand without annotation.
+    pub fn new(
+        bases: &'a [u8],
+        quals: &'a [u8],
+        depths: &'a [u16],
+        errors: &'a [u16],
+    ) -> VanillaConsensusRead<'a>
+        ensures annotation { annotation_in result ≡ None }
+        ensures arrays { arrays_in result ≡ arrays bases.now quals.now depths.now errors.now [] [] [] }
+    {
+        let methylation = None;
+        VanillaConsensusRead {
+            bases,
+            quals,
+            depths,
+            errors,
+            methylation,
+        }
+    }
+
+    // The pattern of its annotation.
+    pub fn annotation(self) -> Option<ConversionPattern>
+        ensures { result ≡ annotation_in self.entry }
+    {
+        self.methylation.map(|m| m.pattern)
+    }
+
+    // Its annotation's evidence; without one none.
+    pub fn evidence(self) -> EvidenceSlices<'a>
+        ensures { evidence_in result ≡ evidence_held self.entry.methylation }
+    {
+        self.methylation
+            .map_or(EvidenceSlices::none(), |m| m.evidence)
+    }
+
+    // The strand with this annotation and its evidence, or with none.
+    pub fn annotated(
+        self,
+        annotation: Option<ConversionPattern>,
+        evidence: EvidenceSlices<'a>,
+    ) -> VanillaConsensusRead<'a>
+        ensures annotation { annotation_in result ≡ annotation }
+        ensures arrays { arrays_in result ≡ arrays_seen annotation (with_evidence (arrays_in self.entry) (evidence_in evidence.entry)) }
+    {
+        let methylation = MethylationAnnotation::of(annotation, evidence);
+        VanillaConsensusRead {
+            methylation,
+            ..self
+        }
+    }
+
+    // The strand without its annotation.
+    pub fn plain(self) -> VanillaConsensusRead<'a>
+        ensures { result ≡ plain self.entry }
+    {
+        VanillaConsensusRead {
+            methylation: None,
+            ..self
+        }
+    }
+
     pub fn lengths(self) -> Lengths
-        ensures { result ≡ lengths self.entry.annotation (arrays_in self.entry) }
+        ensures { result ≡ lengths (annotation_in self.entry) (arrays_in self.entry) }
     {
         Lengths {
             bases: self.bases.len(),
             quals: self.quals.len(),
             depths: self.depths.len(),
             errors: self.errors.len(),
-            evidence: self.annotation.and(Some(self.evidence.lengths())),
+            evidence: self.methylation.map(|m| m.evidence.lengths()),
         }
     }
 }
@@ -94,5 +156,5 @@ pub fn outputs_too_short(n: usize, out: Lengths) -> bool
 pub fn mark_of(x: u8) -> u8
     ensures { result ≡ mark x }
 {
-    if x == 0 { 0 } else { 1 }
+    u8::from(x != 0)
 }

@@ -24,7 +24,10 @@ use Rattle.refusals.proofs.Condition.{Every}
 use Rattle.methylation.specs.Arrays.{EvidenceArrays, evidence_arrays, three, evidence_lengths, PutsEvidence}
 use Rattle.methylation.specs.Methylation.{is_annotated}
 use Rattle.methylation.specs.declared.ConversionPattern.{ConversionPattern}
-use Rattle.vanilla_caller.specs.Strand.{Arrays, lengths, mark}
+use Rattle.methylation.specs.Annotation.{evidence_held}
+use Rattle.vanilla_caller.specs.Strand.{Arrays, annotation_in, plain, lengths, mark}
+use Rattle.vanilla_caller.specs.declared.VanillaConsensusRead.{VanillaConsensusRead}
+use Rattle.vanilla_padded.specs.Lent.{kept_of}
 use Rattle.vanilla_caller.specs.declared.Lengths.{Lengths}
 use Rattle.vanilla_caller.proofs.Strand.{Even, even, roomy, leaves_refused, Puts, leaves_passed}
 use Rattle.vanilla_padded.specs.Padding.{Padding, kept, padded_arrays, padded_faults, padded_refused, PaddedAs}
@@ -99,22 +102,46 @@ unfolding only_if
 map_only_if true xs = refl
 map_only_if false xs = refl
 
+-- The annotation that is kept.
+pub kept_is : (s : VanillaConsensusRead) (n : ℕ) → annotation_in (kept_of s n) ≡ kept (annotation_in s) (length s.bases.now) n
+kept_is s n = go (eqb (length s.bases.now) n)
+  where
+    go : (same : Bool) → annotation_in (cond same s (plain s)) ≡ cond same (annotation_in s) None
+    go true = refl
+    go false = refl
+
 -- So the evidence that is written is that of the definition.
-pub kept_evidence :
-    (there : Option ConversionPattern) (e before : EvidenceArrays) {k : Option ConversionPattern} {now : EvidenceArrays}
-    → k ≡ there
-    → (is_annotated there ≡ true → (length e.marks ≤ length before.marks) × (length e.unconverted ≤ length before.unconverted) × (length e.converted ≤ length before.converted))
-    → now.marks ≡ put (only_if (is_annotated k) (take (length before.marks) (map mark e.marks))) before.marks
-    → now.unconverted ≡ put (only_if (is_annotated k) (take (length before.unconverted) e.unconverted)) before.unconverted
-    → now.converted ≡ put (only_if (is_annotated k) (take (length before.converted) e.converted)) before.converted
-    → (let written = is_annotated there in PutsEvidence (evidence_arrays (map mark (only_if written e.marks)) (only_if written e.unconverted) (only_if written e.converted)) before now)
-kept_evidence there e before same fits marks unconverted converted =
-    let written = is_annotated there in
-    record {
-      marks = rw same at marks ∙ all_fits (map mark e.marks) before.marks written (λ h. omega (arith, (fits h).0, length-map e.marks mark)) ∙ ap (λ (l : List ℕ). put l before.marks) (map_only_if written e.marks);
-      unconverted = rw same at unconverted ∙ all_fits e.unconverted before.unconverted written (λ h. (fits h).1);
-      converted = rw same at converted ∙ all_fits e.converted before.converted written (λ h. (fits h).2);
-    }
+module _ (s : VanillaConsensusRead) (before now : EvidenceArrays) where
+  abbrev e : EvidenceArrays
+  e = evidence_held s.methylation
+
+  abbrev WrittenOf : VanillaConsensusRead → Type 0
+  WrittenOf k =
+      (now.marks ≡ put (only_if (is_annotated (annotation_in k)) (take (length before.marks) (map mark (evidence_held k.methylation).marks))) before.marks)
+      × (now.unconverted ≡ put (only_if (is_annotated (annotation_in k)) (take (length before.unconverted) (evidence_held k.methylation).unconverted)) before.unconverted)
+      × (now.converted ≡ put (only_if (is_annotated (annotation_in k)) (take (length before.converted) (evidence_held k.methylation).converted)) before.converted)
+
+  abbrev Fits : Option ConversionPattern → Type 0
+  Fits left = is_annotated left ≡ true → (length e.marks ≤ length before.marks) × (length e.unconverted ≤ length before.unconverted) × (length e.converted ≤ length before.converted)
+
+  abbrev Puts_if : Option ConversionPattern → Type 0
+  Puts_if left =
+      let written = is_annotated left in
+      PutsEvidence (evidence_arrays (map mark (only_if written e.marks)) (only_if written e.unconverted) (only_if written e.converted)) before now
+
+  by_length : (same : Bool) → Fits (cond same (annotation_in s) None) → WrittenOf (cond same s (plain s)) → Puts_if (cond same (annotation_in s) None)
+  unfolding only_if
+  by_length true fits w =
+      let written = is_annotated (annotation_in s) in
+      record {
+        marks = w.0 ∙ all_fits (map mark e.marks) before.marks written (λ h. omega (arith, (fits h).0, length-map e.marks mark)) ∙ ap (λ (l : List ℕ). put l before.marks) (map_only_if written e.marks);
+        unconverted = w.1 ∙ all_fits e.unconverted before.unconverted written (λ h. (fits h).1);
+        converted = w.2 ∙ all_fits e.converted before.converted written (λ h. (fits h).2);
+      }
+  by_length false fits w = record { marks = w.0; unconverted = w.1; converted = w.2 }
+
+  pub kept_evidence : (n : ℕ) {k : VanillaConsensusRead} → k ≡ kept_of s n → Fits (kept (annotation_in s) (length s.bases.now) n) → WrittenOf k → Puts_if (kept (annotation_in s) (length s.bases.now) n)
+  kept_evidence n is fits w = by_length (eqb (length s.bases.now) n) fits (rw is at w)
 
 pub written :
     (annotation : Option ConversionPattern) (s : Arrays) (p : Padding) (before : Arrays) {now : Arrays} {k : Option ConversionPattern}

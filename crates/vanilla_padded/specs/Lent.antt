@@ -1,9 +1,10 @@
--- The outputs lent for a strand, as arrays.
-use Rattle.std.specs.Prelude.{◌≡◌, Option, length}
+-- The outputs lent for a strand, as arrays, and the strand with the annotation that it keeps.
+use Rattle.std.specs.Prelude.{◌≡◌, ℕ, cond, eqb, Option, length}
 use Rattle.methylation.specs.Arrays.{EvidenceArrays}
 use Rattle.methylation.specs.declared.EvidenceLengths.{EvidenceLengths}
-use Rattle.vanilla_caller.specs.Strand.{Arrays}
+use Rattle.vanilla_caller.specs.Strand.{Arrays, plain}
 use Rattle.vanilla_caller.specs.declared.Lengths.{Lengths}
+use Rattle.vanilla_caller.specs.declared.VanillaConsensusRead.{VanillaConsensusRead}
 use Rattle.vanilla_padded.specs.declared.StrandOutputs.{StrandOutputs}
 
 -- What stands in them, beside what stands in those for its evidence.
@@ -24,6 +25,10 @@ lengths_beside out evidence = record {
   errors = length out.errors.now;
   evidence = evidence;
 }
+
+-- A strand that is padded to n positions: it keeps its annotation where it has as many.
+abbrev pub kept_of : VanillaConsensusRead → ℕ → VanillaConsensusRead
+kept_of s n = cond (eqb (length s.bases.now) n) s (plain s)
 
 -- A call that was lent them left each slice where it was, so that who lent them knows what it holds.
 pub record SameStrand (before now : StrandOutputs) : Type 0 where

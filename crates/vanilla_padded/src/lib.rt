@@ -7,15 +7,16 @@ ghost use Rattle.lists.specs.Output.{put};
 ghost use Rattle.lists.specs.Part.{only_if};
 ghost use Rattle.refusals.specs.Refusal.{refused};
 ghost use Rattle.refusals.specs.Outcome.{answer};
+ghost use Rattle.methylation.specs.Annotation.{pattern_held, evidence_held};
 ghost use Rattle.methylation.specs.Methylation.{is_annotated};
 ghost use Rattle.methylation.specs.Outputs.{evidence_out, SameEvidence};
-ghost use Rattle.vanilla_caller.specs.Strand.{arrays_in, mark};
-ghost use Rattle.vanilla_padded.specs.Lent.{strand_out, lengths_beside, SameStrand};
-ghost use Rattle.vanilla_padded.specs.Padding.{padding, default_padding, pad_to, kept, padded_faults, PaddedAs};
+ghost use Rattle.vanilla_caller.specs.Strand.{annotation_in, arrays_in, mark};
+ghost use Rattle.vanilla_padded.specs.Lent.{strand_out, lengths_beside, kept_of, SameStrand};
+ghost use Rattle.vanilla_padded.specs.Padding.{padding, default_padding, pad_to, padded_faults, PaddedAs};
 
 use dna::NO_CALL_BASE_LOWER;
 use lists::copy;
-use methylation::{ConversionPattern, EvidenceLengths, EvidenceOutputs, EvidenceSlices};
+use methylation::{ConversionPattern, EvidenceLengths, EvidenceOutputs, MethylationAnnotation};
 use methylation_evidence::copy_marks;
 use phred::MIN_PHRED;
 use refusals::{MAX_POSITIONS, Refusal, refuse};
@@ -48,23 +49,19 @@ impl StrandOutputs<'_> {
     }
 }
 
-// The annotation of a strand of so many positions padded to new_length.
-fn kept_annotation(
-    annotation: Option<ConversionPattern>,
-    positions: usize,
-    new_length: usize,
-) -> Option<ConversionPattern>
-    ensures { result ≡ kept annotation positions new_length }
+// A strand that is padded to new_length, with the annotation that it keeps.
+fn kept<'a>(strand: VanillaConsensusRead<'a>, new_length: usize) -> VanillaConsensusRead<'a>
+    ensures { result ≡ kept_of strand.entry new_length }
 {
-    if positions == new_length {
-        annotation
+    if strand.bases.len() == new_length {
+        strand
     } else {
-        None
+        strand.plain()
     }
 }
 
 // Writes an array with copies of a value added, on the left or the right, up to new_length.
-// `left` is the Rust's own parameter, here and in the calls.
+// `new_length` and `left` are the Rust's own two parameters, here and in the calls.
 fn pad<T: Copy>(xs: &[T], new_length: usize, left: bool, value: T, out: &mut [T])
     requires fits { (length xs.now ≤ new_length) × (new_length ≤ length out.old) }
     requires infallible { T.is_infallible value }
@@ -92,29 +89,25 @@ fn padded_refusal(strand: Lengths, new_length: usize, out: Lengths) -> Result<()
     refuse(outputs_too_short(new_length, out), Refusal::OutputTooShort)
 }
 
-// As much of the evidence as there is room for, where the annotation is kept.
+// As much of an annotation's evidence as there is room for.
 #[tactic(auto, using(lists::proofs::Output::put_none), unfolding(lists::specs::Part::only_if))]
-fn write_evidence(
-    kept: Option<ConversionPattern>,
-    evidence: EvidenceSlices<'_>,
-    out: &mut EvidenceOutputs<'_>,
-)
+fn write_evidence(annotation: Option<MethylationAnnotation<'_>>, out: &mut EvidenceOutputs<'_>)
     ensures same_references { SameEvidence out.old out.new }
-    ensures marks { out.new.marks.now ≡ put (only_if (is_annotated kept) (take (length out.old.marks.now) (map mark evidence.entry.marks.now))) out.old.marks.now }
-    ensures unconverted { out.new.unconverted.now ≡ put (only_if (is_annotated kept) (take (length out.old.unconverted.now) evidence.entry.unconverted.now)) out.old.unconverted.now }
-    ensures converted { out.new.converted.now ≡ put (only_if (is_annotated kept) (take (length out.old.converted.now) evidence.entry.converted.now)) out.old.converted.now }
+    ensures marks { out.new.marks.now ≡ put (only_if (is_annotated (pattern_held annotation.entry)) (take (length out.old.marks.now) (map mark (evidence_held annotation.entry).marks))) out.old.marks.now }
+    ensures unconverted { out.new.unconverted.now ≡ put (only_if (is_annotated (pattern_held annotation.entry)) (take (length out.old.unconverted.now) (evidence_held annotation.entry).unconverted)) out.old.unconverted.now }
+    ensures converted { out.new.converted.now ≡ put (only_if (is_annotated (pattern_held annotation.entry)) (take (length out.old.converted.now) (evidence_held annotation.entry).converted)) out.old.converted.now }
 {
-    if kept.is_some() {
-        copy_marks(evidence.marks, out.marks);
-        copy(evidence.unconverted, out.unconverted);
-        copy(evidence.converted, out.converted);
+    if let Some(m) = annotation {
+        copy_marks(m.evidence.marks, out.marks);
+        copy(m.evidence.unconverted, out.unconverted);
+        copy(m.evidence.converted, out.converted);
     }
 }
 
 // Adds positions on the left or the right, up to new_length, with a base, a quality, depth 0 and error 0, and answers the annotation
 // that the strand keeps. The same length copies all, with marks as 0 or 1; a greater drops the annotation and leaves its outputs as
 // they are. Refuses by 7, 8, 11, 12.
-// `left` is the Rust's own parameter.
+// `new_length` and `left` are the Rust's own two parameters, and so in padded_default.
 pub fn padded(
     strand: VanillaConsensusRead<'_>,
     new_length: usize,
@@ -125,21 +118,22 @@ pub fn padded(
     evidence: &mut EvidenceOutputs<'_>,
 ) -> Result<Option<ConversionPattern>, Refusal>
     ensures same_references { SameStrand out.old out.new × SameEvidence evidence.old evidence.new }
-    ensures padded { PaddedAs strand.entry.annotation (arrays_in strand.entry)
+    ensures padded { PaddedAs (annotation_in strand.entry) (arrays_in strand.entry)
         (padding new_length left base qual)
         (strand_out out.old (evidence_out evidence.old))
         (strand_out out.new (evidence_out evidence.new))
         result }
 {
-    let kept = kept_annotation(strand.annotation, strand.bases.len(), new_length);
-    let room = out.lengths(kept.and(Some(evidence.lengths())));
+    let kept = kept(strand, new_length);
+    let annotation = kept.annotation();
+    let room = out.lengths(annotation.and(Some(evidence.lengths())));
     padded_refusal(strand.lengths(), new_length, room)?;
     pad(strand.bases, new_length, left, base, out.bases);
     pad(strand.quals, new_length, left, qual, out.quals);
     pad(strand.depths, new_length, left, 0, out.depths);
     pad(strand.errors, new_length, left, 0, out.errors);
-    write_evidence(kept, strand.evidence, evidence);
-    Ok(kept)
+    write_evidence(kept.methylation, evidence);
+    Ok(annotation)
 }
 
 // padded with the base n and the quality 2.
@@ -151,7 +145,7 @@ pub fn padded_default(
     evidence: &mut EvidenceOutputs<'_>,
 ) -> Result<Option<ConversionPattern>, Refusal>
     ensures same_references { SameStrand out.old out.new × SameEvidence evidence.old evidence.new }
-    ensures padded { PaddedAs strand.entry.annotation (arrays_in strand.entry)
+    ensures padded { PaddedAs (annotation_in strand.entry) (arrays_in strand.entry)
         (default_padding new_length left)
         (strand_out out.old (evidence_out evidence.old))
         (strand_out out.new (evidence_out evidence.new))
