@@ -1,3 +1,4 @@
 pub mod Cut
 pub mod Examples
 pub mod Gate
+pub mod Largest

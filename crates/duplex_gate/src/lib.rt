@@ -7,7 +7,8 @@ ghost use Rattle.duplex_gate.specs.ConsensusGate.{largest_within, consensus_gate
 
 use duplex_depths::RecordDepths;
 use duplex_min_reads::{reaches, validate_min_reads};
-use refusals::{MAX_POSITIONS, Refusal, refuse};
+use numbers::largest;
+use refusals::{Refusal, refuse};
 
 // A depth of each strand.
 #[derive(Clone, Copy)]
@@ -27,19 +28,13 @@ fn largest_within(r: RecordDepths) -> Depths
     let both = ab_end.min(ba_end);
     let mut of_ab = 0;
     let mut of_ba = 0;
-    for i in 0..both {
-        of_ab = of_ab.max(ab[i]);
-        of_ba = of_ba.max(ba[i]);
-    }
-    for i in both..ab_end {
-        of_ab = of_ab.max(ab[i]);
-    }
-    for i in both..ba_end {
-        of_ba = of_ba.max(ba[i]);
+    for (&of_a, &of_b) in ab[..both].iter().zip(&ba[..both]) {
+        of_ab = of_ab.max(of_a);
+        of_ba = of_ba.max(of_b);
     }
     Depths {
-        ab: of_ab,
-        ba: of_ba,
+        ab: of_ab.max(largest(&ab[both..ab_end])),
+        ba: of_ba.max(largest(&ba[both..ba_end])),
     }
 }
 
@@ -52,11 +47,7 @@ pub fn duplex_consensus_has_minimum_reads(
     ensures { result ≡ consensus_gate r.entry.positions r.entry.ab.now r.entry.ba.now min_reads.now }
 {
     let thresholds = validate_min_reads(min_reads)?;
-    refuse(
-        (MAX_POSITIONS < r.positions)
-            | ((MAX_POSITIONS < r.ab.len()) | (MAX_POSITIONS < r.ba.len())),
-        Refusal::TooLong,
-    )?;
-    let largest = largest_within(r);
-    Ok(reaches(thresholds, largest.ab as u32, largest.ba as u32))
+    refuse(r.too_long(), Refusal::TooLong)?;
+    let of = largest_within(r);
+    Ok(reaches(thresholds, u32::from(of.ab), u32::from(of.ba)))
 }

@@ -5,17 +5,16 @@ use mathlib.Core.Path.{◌≡◌, refl}
 use mathlib.Core.Bool.{Bool, true, false, cond}
 use mathlib.Core.List.{List, [], ◌∷◌}
 use Prim.Native.Nat.{ℕ}
-use lib.Dec.{eqb}
 use Rattle.std.proofs.Common.{Option, Some, None}
 use Rattle.refusals.specs.declared.Refusal.{Refusal}
 use Rattle.refusals.specs.declared.Refusal.TheVariants.{NoMi, NoStrand}
-use Rattle.refusals.specs.Refusal.{number_or_0}
+use Rattle.refusals.specs.Outcome.{or_later}
 use Rattle.duplex_partition.specs.declared.MiPart.{MiPart}
 use Rattle.duplex_partition.specs.declared.MiStrand.{MiStrand}
-use Rattle.duplex_partition.specs.Partition.{has_mi, read_strand, offence_of, or_later, first_offence}
+use Rattle.duplex_partition.specs.Partition.{has_mi, read_strand, offence_of, first_offence, is_row}
 
 abbrev pub by_row : Option Refusal → Option Refusal
-by_row found = cond (eqb (number_or_0 found) 5) (Some NoMi) (cond (eqb (number_or_0 found) 6) (Some NoStrand) None)
+by_row found = cond (is_row NoMi found) (Some NoMi) (cond (is_row NoStrand found) (Some NoStrand) None)
 
 pub own_rows : (bytes : List ℕ) (reads : List MiPart) → by_row (first_offence bytes reads) ≡ first_offence bytes reads
 own_rows bytes [] = refl

@@ -1,11 +1,12 @@
 -- Reads and their partition, document 01: an MI ends in /A or /B, which names the read's strand; the rest is the base MI.
-use Rattle.std.specs.Prelude.{ℕ, ◌-◌, ◌≡◌, Bool, true, false, cond, not, ◌&&◌, ◌||◌, Option, Some, None, Result, List, [], ◌∷◌, eqb, leb, length, get_or, fold}
+use Rattle.std.specs.Prelude.{ℕ, ◌-◌, ◌≡◌, Bool, true, false, cond, not, ◌&&◌, Option, Some, None, Result, List, [], ◌∷◌, eqb, leb, length, get_or}
+use Rattle.std.specs.List.{list_any}
 use Rattle.lists.specs.Indices.{indices}
 use Rattle.lists.specs.Part.{leaves, part}
 use Rattle.refusals.specs.declared.Refusal.{Refusal}
 use Rattle.refusals.specs.declared.Refusal.TheVariants.{TooManyReads, PartOutside, OutputTooShort, NoMi, NoStrand}
-use Rattle.refusals.specs.Refusal.{Fault, ◌if◌, too_many, too_short, number_or_0, refused}
-use Rattle.refusals.specs.Outcome.{answer, after}
+use Rattle.refusals.specs.Refusal.{Fault, ◌if◌, too_many, too_short, code, refused}
+use Rattle.refusals.specs.Outcome.{answer, after, or_later}
 use Rattle.duplex_partition.specs.declared.BaseMi.{BaseMi}
 use Rattle.duplex_partition.specs.declared.MiPart.{MiPart}
 use Rattle.duplex_partition.specs.declared.MiStrand.{MiStrand}
@@ -47,10 +48,6 @@ abbrev pub offence : List ℕ → MiPart → Option Refusal
 offence bytes read = cond (has_mi read) (offence_of (read_strand bytes read)) (Some NoMi)
 
 -- The first read at fault decides.
-abbrev pub or_later : Option Refusal → Option Refusal → Option Refusal
-or_later None later = later
-or_later (Some row) later = Some row
-
 abbrev pub first_offence : List ℕ → List MiPart → Option Refusal
 first_offence bytes [] = None
 first_offence bytes (read ∷ reads) = or_later (offence bytes read) (first_offence bytes reads)
@@ -60,7 +57,12 @@ abbrev pub mi_leaves : ℕ → MiPart → Bool
 mi_leaves n read = has_mi read && leaves read.offset read.length n
 
 abbrev pub any_mi_leaves : ℕ → List MiPart → Bool
-any_mi_leaves n reads = fold (λ met read. met || mi_leaves n read) false reads
+any_mi_leaves n reads = list_any (mi_leaves n) reads
+
+-- A refusal is this row. Rows are told apart by their codes.
+abbrev pub is_row : Refusal → Option Refusal → Bool
+is_row row None = false
+is_row row (Some found) = eqb (code found) (code row)
 
 -- n reads, whether an MI leaves the buffer, the places of the two lists, and the first offence. Each list must hold as many
 -- places as there are reads.
@@ -69,8 +71,8 @@ partition_faults n leaving a b found =
     (TooManyReads if too_many (n ∷ []))
     ∷ (PartOutside if leaving)
     ∷ (OutputTooShort if too_short n (a ∷ b ∷ []))
-    ∷ (NoMi if eqb (number_or_0 found) 5)
-    ∷ (NoStrand if eqb (number_or_0 found) 6)
+    ∷ (NoMi if is_row NoMi found)
+    ∷ (NoStrand if is_row NoStrand found)
     ∷ []
 
 -- The reads, the bytes, and the lists of A and of B.

@@ -19,11 +19,11 @@ pub struct MiPart {
     pub length: usize,
 }
 
-// The strand that an MI names by its last two bytes.
+// The strand that an MI names by its last two bytes; with the number that C sees.
 #[derive(Clone, Copy, Debug, PartialEq, Eq)]
 pub enum MiStrand {
-    A,
-    B,
+    A = 1,
+    B = 2,
 }
 
 // The first read's MI without its last two bytes, as a part of the caller's bytes: C is told where it is, and no slice comes back.
@@ -45,6 +45,13 @@ pub struct Partition {
 struct Counts {
     a: usize,
     b: usize,
+}
+
+// A molecule's reads, and the bytes that their MIs are parts of.
+#[derive(Clone, Copy)]
+struct MiReads<'a> {
+    reads: &'a [MiPart],
+    bytes: &'a [u8],
 }
 
 // The strand that an MI ending in /A or /B names. Any other names none.
@@ -72,68 +79,73 @@ fn read_offence(bytes: &[u8], read: MiPart) -> Result<(), Refusal>
     refuse(read_strand(bytes, read).is_none(), Refusal::NoStrand)
 }
 
-// Refuses by the first read at fault.
-fn first_offence(bytes: &[u8], reads: &[MiPart]) -> Result<(), Refusal>
-    ensures { result ≡ answer (first_offence bytes.now reads.now) tt }
-{
-    for &read in reads {
-        read_offence(bytes, read)?;
-    }
-    Ok(())
-}
-
 fn read_leaves(size: usize, read: MiPart) -> bool
     ensures { result ≡ mi_leaves size read }
 {
     (read.present != 0) & part_leaves(read.offset, read.length, size)
 }
 
-fn any_leaves(size: usize, reads: &[MiPart]) -> bool
-    ensures { result ≡ any_mi_leaves size reads.now }
-{
-    // Every read is looked at, as in the definition: `any`, which stops at the first, was no quicker.
-    reads
-        .iter()
-        .fold(false, |met, &read| met | read_leaves(size, read))
-}
-
-fn write_partition(bytes: &[u8], reads: &[MiPart], a_out: &mut [u16], b_out: &mut [u16]) -> Counts
-    requires reads_len_bound { length reads.now ≤ 1024 }
-    requires reads_in_bounds { (length reads.now ≤ length a_out.old) × (length reads.now ≤ length b_out.old) }
-    ensures a_value { (result.a ≡ length (on_a bytes.now reads.now)) × (result.b ≡ length (on_b bytes.now reads.now)) }
-    ensures a_out_after { a_out.new ≡ put (on_a bytes.now reads.now) a_out.old }
-    ensures b_out_after { b_out.new ≡ put (on_b bytes.now reads.now) b_out.old }
-{
-    let mut a = 0;
-    let mut b = 0;
-    for i in 0..reads.len() {
-        match read_strand(bytes, reads[i]) {
-            Some(MiStrand::A) => {
-                a_out[a] = i as u16;
-                a += 1;
-            }
-            Some(MiStrand::B) => {
-                b_out[b] = i as u16;
-                b += 1;
-            }
-            None => {}
-        }
+impl MiReads<'_> {
+    // Whether some read's MI leaves the bytes.
+    fn any_leaves(self) -> bool
+        ensures { result ≡ any_mi_leaves (length self.entry.bytes.now) self.entry.reads.now }
+    {
+        let size = self.bytes.len();
+        self.reads.iter().any(|&read| read_leaves(size, read))
     }
-    Counts { a, b }
-}
 
-fn base_mi(reads: &[MiPart]) -> Option<BaseMi>
-    ensures { result ≡ base_mi reads.now }
-{
-    let first = reads.first()?;
-    Some(BaseMi {
-        offset: first.offset,
-        length: first.length.saturating_sub(2),
-    })
+    // Refuses by the first read at fault.
+    fn first_offence(self) -> Result<(), Refusal>
+        ensures { result ≡ answer (first_offence self.entry.bytes.now self.entry.reads.now) tt }
+    {
+        for &read in self.reads {
+            read_offence(self.bytes, read)?;
+        }
+        Ok(())
+    }
+
+    // Writes the numbers of the reads of A and of B, and answers how many. 1,024 is MAX_READS, up to which a read's number fits its 16 bits.
+    fn write_partition(self, a_out: &mut [u16], b_out: &mut [u16]) -> Counts
+        requires reads_len_bound { length self.reads.now ≤ 1024 }
+        requires reads_in_bounds { (length self.reads.now ≤ length a_out.old) × (length self.reads.now ≤ length b_out.old) }
+        ensures a_value { (result.a ≡ length (on_a self.entry.bytes.now self.entry.reads.now)) × (result.b ≡ length (on_b self.entry.bytes.now self.entry.reads.now)) }
+        ensures a_out_after { a_out.new ≡ put (on_a self.entry.bytes.now self.entry.reads.now) a_out.old }
+        ensures b_out_after { b_out.new ≡ put (on_b self.entry.bytes.now self.entry.reads.now) b_out.old }
+    {
+        // Two lists grow, each by its own reads: an iterator over a list's places would have a `None` to answer for at each of its reads.
+        let mut a = 0;
+        let mut b = 0;
+        for (i, &read) in self.reads.iter().enumerate() {
+            match read_strand(self.bytes, read) {
+                Some(MiStrand::A) => {
+                    a_out[a] = i as u16;
+                    a += 1;
+                }
+                Some(MiStrand::B) => {
+                    b_out[b] = i as u16;
+                    b += 1;
+                }
+                None => {}
+            }
+        }
+        Counts { a, b }
+    }
+
+    // The first read's MI without its last two bytes.
+    fn base_mi(self) -> Option<BaseMi>
+        ensures { result ≡ base_mi self.entry.reads.now }
+    {
+        let first = self.reads.first()?;
+        Some(BaseMi {
+            offset: first.offset,
+            length: first.length.saturating_sub(2),
+        })
+    }
 }
 
 // The numbers of the reads of strand A and of B, each in arrival order. Refuses by 9, 10, 12, then 5 or 6 by the first read
 // at fault.
+#[tactic(auto, using(crate::proofs::Offence::own_rows))]
 pub fn partition_records_by_strand(
     reads: &[MiPart],
     bytes: &[u8],
@@ -143,17 +155,19 @@ pub fn partition_records_by_strand(
     ensures { PartitionedAs reads.now bytes.now a_out.old b_out.old a_out.new b_out.new result }
 {
     let n = reads.len();
+    // One value here: whoever calls for C has the two apart.
+    let given = MiReads { reads, bytes };
     refuse(MAX_READS < n, Refusal::TooManyReads)?;
-    refuse(any_leaves(bytes.len(), reads), Refusal::PartOutside)?;
+    refuse(given.any_leaves(), Refusal::PartOutside)?;
     refuse(
         (a_out.len() < n) | (b_out.len() < n),
         Refusal::OutputTooShort,
     )?;
-    first_offence(bytes, reads)?;
-    let counts = write_partition(bytes, reads, a_out, b_out);
+    given.first_offence()?;
+    let counts = given.write_partition(a_out, b_out);
     Ok(Partition {
         a: counts.a,
         b: counts.b,
-        base_mi: base_mi(reads),
+        base_mi: given.base_mi(),
     })
 }

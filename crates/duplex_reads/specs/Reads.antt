@@ -1,6 +1,8 @@
 -- What a read's flags say, and the read gate, document 01.
-use Rattle.std.specs.Prelude.{ℕ, ◌+◌, Bool, true, ◌&&◌, Option, Some, None, Result, List, [], ◌∷◌, ◌++◌, length, get_or, count_by, fold}
+use Rattle.std.specs.Prelude.{ℕ, ◌+◌, ◌≡◌, Bool, ◌&&◌, Option, Some, None, Result, Ok, Err, List, [], ◌∷◌, ◌++◌, length, get_or, count_by}
 use Rattle.std.specs.Bool.{beq}
+use Rattle.std.specs.List.{list_all}
+use Rattle.std.specs.Result.{IsErrAnd}
 use Rattle.refusals.specs.declared.Refusal.{Refusal}
 use Rattle.refusals.specs.declared.Refusal.TheVariants.{TooManyReads}
 use Rattle.refusals.specs.Refusal.{Fault, ◌if◌, too_many, refused as refused_by}
@@ -33,14 +35,15 @@ count_r1 reads = count_by is_paired_r1 reads
 abbrev pub gate : List ℕ → List Fault → ℕ → ℕ → Result Bool Refusal
 gate ts own a b = answer (refused_by (faults ts ++ own)) (reaches_all (min_reads ts) a b)
 
--- Of two refusals the first decides.
-abbrev pub first_of : Option Refusal → Option Refusal → Option Refusal
-first_of None own = own
-first_of (Some row) own = Some row
+-- The same where the refusal of what is counted is known, by any refusals that a row of the table becomes: what is answered is a
+-- refusal that the thresholds' row gives, then the one that is known, or whether the counts are enough.
+abbrev pub AnsweredBy : {E : Type 0} → (Refusal → E → Type 0) → Option Refusal → Result (Unit {0}) E → Bool → Result Bool E → Type 0
+AnsweredBy gives (Some row) own enough r = IsErrAnd r (gives row)
+AnsweredBy gives None (Err refusal) enough r = r ≡ Err refusal
+AnsweredBy gives None (Ok tested) enough r = r ≡ Ok enough
 
--- The same where the refusal of what is counted is known.
-abbrev pub gate_answer : List ℕ → Option Refusal → ℕ → ℕ → Result Bool Refusal
-gate_answer ts own a b = answer (first_of (refused ts) own) (reaches_all (min_reads ts) a b)
+abbrev pub GateAnswers : {E : Type 0} → (Refusal → E → Type 0) → List ℕ → Result (Unit {0}) E → ℕ → ℕ → Result Bool E → Type 0
+GateAnswers gives ts own a b r = AnsweredBy gives (refused ts) own (reaches_all (min_reads ts) a b) r
 
 -- The reads of A and of B, and the thresholds.
 abbrev pub read_gate : List ℕ → List ℕ → List ℕ → Result Bool Refusal
@@ -50,11 +53,8 @@ abbrev pub is_reverse : ℕ → Bool
 is_reverse flags = is_set flags reverse
 
 -- Every read is reverse, where r is true, or every read is not.
-abbrev pub still_same : Bool → Bool → ℕ → Bool
-still_same r met flags = met && beq (is_reverse flags) r
-
 abbrev pub all_reverse_as : Bool → List ℕ → Bool
-all_reverse_as r reads = fold (still_same r) true reads
+all_reverse_as r reads = list_all (λ flags. beq (is_reverse flags) r) reads
 
 abbrev pub strand_refused : List ℕ → Option Refusal
 strand_refused reads = refused_by ((TooManyReads if too_many (length reads ∷ [])) ∷ [])

@@ -4,7 +4,7 @@
 
 ghost use Rattle.std.specs.Prelude.{◌≡◌, ◌≤◌, length};
 ghost use Rattle.duplex_reads.specs.Choices.{read_type_in};
-ghost use Rattle.duplex_reads.specs.Reads.{is_paired, is_paired_r1, is_paired_r2, written_flags, count_r1, gate_answer, read_gate, all_reverse_as, same_strand};
+ghost use Rattle.duplex_reads.specs.Reads.{is_paired, is_paired_r1, is_paired_r2, written_flags, count_r1, GateAnswers, read_gate, all_reverse_as, same_strand};
 
 use duplex_min_reads::{reaches, validate_min_reads};
 use flags::{FIRST_SEGMENT, LAST_SEGMENT, PAIRED, REVERSE, is_set};
@@ -71,6 +71,7 @@ pub fn is_paired_r2(flags: u16) -> bool
     is_paired(flags) & is_set(flags, LAST_SEGMENT)
 }
 
+// 1,024 is MAX_READS, up to which the sum fits its type.
 fn count_r1(reads: &[u16]) -> u32
     requires { length reads.now ≤ 1024 }
     ensures { result ≡ count_r1 reads.now }
@@ -81,14 +82,18 @@ fn count_r1(reads: &[u16]) -> u32
         .sum()
 }
 
-// A gate's answer by a count of each strand. Refuses by the thresholds' rows, then by what refuses the counts.
-pub fn gate_answer(min_reads: &[u32], own: Option<Refusal>, a: u32, b: u32) -> Result<bool, Refusal>
-    ensures { result ≡ gate_answer min_reads.now own a b }
+// A gate's answer by a count of each strand. Refuses by the thresholds' rows, then by what refuses the counts, of any type that a row
+// becomes: a row, its number or another number.
+pub fn gate_answer<E: From<Refusal> + Copy>(
+    min_reads: &[u32],
+    own: Result<(), E>,
+    a: u32,
+    b: u32,
+) -> Result<bool, E>
+    ensures { GateAnswers E.from_gives min_reads.now own a b result }
 {
     let least = validate_min_reads(min_reads)?;
-    if let Some(row) = own {
-        return Err(row);
-    }
+    own?;
     Ok(reaches(least, a, b))
 }
 
@@ -112,10 +117,7 @@ pub fn has_minimum_number_of_reads(
 fn all_reverse_as(reverse: bool, reads: &[u16]) -> bool
     ensures { result ≡ all_reverse_as reverse reads.now }
 {
-    // Every read is looked at: `all`, which stops at the first that differs, took three times as long for 200 reads.
-    reads.iter().fold(true, |same, &flags| {
-        same & (is_set(flags, REVERSE) == reverse)
-    })
+    reads.iter().all(|&flags| is_set(flags, REVERSE) == reverse)
 }
 
 // Whether all reads have one orientation. No reads have. Refuses by 9.

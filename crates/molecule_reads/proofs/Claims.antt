@@ -1,12 +1,13 @@
 -- What the reads of a run are: proofs of specs/Claims.antt.
 --     each_read, only_reads     of `EachRead` and `OnlyReads`
+--     next_reads      of `NextReads`
 --     only_these      fields that are reads, by the format's words
 --     none_leaves     every read's part lies within the run, so that row 10 refuses none
 --     told            of a run of reads, each has its field's flags, and its part holds the value after them
 -- Assumes nothing.
 use mathlib.Core.Path.{◌≡◌, refl, sym, ap, ap₂, ◌∙◌}
 use mathlib.Core.Bool.{Bool, true, false, cond, not, ◌&&◌, ◌||◌}
-use mathlib.Core.List.{List, [], ◌∷◌, map, foldl}
+use mathlib.Core.List.{List, [], ◌∷◌, map}
 use Prim.Native.Nat.{ℕ, ◌+◌, ◌-◌, ◌≤◌}
 use native.Mathlib.Omega.{arith}
 use borrow.Author.Tests.{le-ltb, le-leb, leb-true, eq-eqb, eqb-true, not-true}
@@ -24,12 +25,13 @@ use Rattle.molecule_fields.specs.Widths.{is_read, flags_of, bases_of, is_run}
 use Rattle.source_reads.specs.Reads.{read_leaves, any_leaves}
 use Rattle.source_reads.specs.declared.SourceRead.{SourceRead}
 use Rattle.molecule_reads.specs.Run.{read_of, reads_from, reads_of}
-use Rattle.molecule_reads.specs.Claims.{AllReads, said, shown, EachRead, OnlyReads}
+use Rattle.molecule_reads.specs.Claims.{AllReads, said, shown, EachRead, OnlyReads, NextReads}
+use Rattle.molecule_reads.proofs.Run.{run_end, run_broken, run_next}
 
 -- One more read within a buffer of n bytes.
 stays_too : (n : ℕ) (read : SourceRead) (reads : List SourceRead) → read_leaves n read ≡ false → any_leaves n reads ≡ false → any_leaves n (read ∷ reads) ≡ false
 unfolding any_leaves
-stays_too n read reads here later = ap (λ (b : Bool). foldl (λ met r. met || read_leaves n r) b reads) here ∙ later
+stays_too n read reads here later = ap (λ (b : Bool). b || any_leaves n reads) here ∙ later
 
 module _ (run : List ℕ) where
   -- Of the reads from a place on.
@@ -141,3 +143,12 @@ unfolding is_run
 only_reads run small e =
     let (uncut, all) = both_hold (not (cut_field run)) (every is_read (whole_fields run)) e in
     (written run small (not-true (cut_field run) uncut), only_these (whole_fields run) all)
+
+pub next_reads : NextReads
+unfolding reads_of
+next_reads = record {
+  from_begin = λ run. refl;
+  further = λ run at read e. (run_next run at e).left.reads_are;
+  at_end = λ run at e. (run_end run at e).reads_are;
+  at_break = λ run at refusal e. (run_broken run at e).0.reads_are;
+}

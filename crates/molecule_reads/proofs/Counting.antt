@@ -11,9 +11,9 @@ use Rattle.fields.specs.Encoding.{whole_fields}
 use Rattle.molecule_fields.specs.Widths.{is_run}
 use Rattle.source_reads.specs.declared.SourceRead.{SourceRead}
 use Rattle.refusals.specs.declared.Refusal.TheVariants.{Broken}
-use Rattle.std.proofs.Common.{Ok, Err}
-use Rattle.molecule_reads.specs.Run.{reads_from, reads_of, counted}
-use Rattle.molecule_reads.proofs.Run.{Left, ReadsOn}
+use Rattle.std.proofs.Common.{Some, Ok, Err}
+use Rattle.molecule_reads.specs.Run.{reads_from, reads_of, next_read, counted}
+use Rattle.molecule_reads.proofs.Run.{Left, run_next}
 
 pub record Counting (run : List ℕ) (count at : ℕ) : Type 0 where
   pub within : at ≤ length run
@@ -27,8 +27,9 @@ module _ {run : List ℕ} where
   begin = record { within = omega arith; few = omega arith; left = omega arith; whole = refl }
 
   module _ {count at : ℕ} (k : Counting run count at) where
-    pub one_more : {read : SourceRead} → ReadsOn run at read → Counting run (count + 1) (read.offset + read.length)
-    one_more {read} r =
+    pub one_more : {read : SourceRead} → next_read run at ≡ Ok (Some read) → Counting run (count + 1) (read.offset + read.length)
+    one_more {read} e =
+        let r = run_next run at e in
         let then = read.offset + read.length in
         let n : length (reads_from at (whole_fields (drop at run))) ≡ suc (length (reads_from then (whole_fields (drop then run)))) = ap length r.left.reads_are in
         record {

@@ -6,20 +6,16 @@ use mathlib.Core.Path.{◌≡◌, refl, sym, ap, ◌∙◌}
 use mathlib.Core.Bool.{Bool}
 use mathlib.Core.List.{List, [], ◌∷◌}
 use Prim.Native.Nat.{ℕ, ◌+◌}
-use lib.ListN.{length, drop}
-use Rattle.fields.specs.Encoding.{whole_fields}
+use lib.ListN.{length}
 use Rattle.source_reads.specs.Reads.{shown_errors}
 use Rattle.source_reads.specs.declared.SourceRead.{SourceRead}
 use Rattle.source_reads.proofs.Counted.{same, none_yet, after_one}
-use Rattle.molecule_reads.specs.Run.{reads_from, reads_of}
+use Rattle.molecule_reads.specs.Run.{reads_of}
+use Rattle.molecule_reads.specs.Claims.{reads_at}
 use Rattle.molecule_reads.proofs.Run.{Left, ReadsOn}
 
--- The reads from a place of a run on.
-abbrev left_at : List ℕ → ℕ → List SourceRead
-left_at run at = reads_from at (whole_fields (drop at run))
-
 pub record Counting (run : List ℕ) (positions : ℕ) (first last before errors : List ℕ) (at : ℕ) : Type 0 where
-  pub left : shown_errors (left_at run at) run positions first last errors ≡ shown_errors (reads_of run) run positions first last before
+  pub left : shown_errors (reads_at run at) run positions first last errors ≡ shown_errors (reads_of run) run positions first last before
 
 module _ {run : List ℕ} {positions : ℕ} {first last before : List ℕ} where
   pub begin : Counting run positions first last before before 0
@@ -29,15 +25,15 @@ module _ {run : List ℕ} {positions : ℕ} {first last before : List ℕ} where
   module _ {errors : List ℕ} {at : ℕ} (k : Counting run positions first last before errors at) where
     pub same_length : length errors ≡ length before
     same_length =
-        sym (same (left_at run at) run positions first last errors)
+        sym (same (reads_at run at) run positions first last errors)
         ∙ ap length k.left
         ∙ same (reads_of run) run positions first last before
 
     pub one_more : {read : SourceRead} {after : List ℕ} → ReadsOn run at read → after ≡ shown_errors (read ∷ []) run positions first last errors → Counting run positions first last before after (read.offset + read.length)
     one_more {read} r e = record {
       left =
-          ap (shown_errors (left_at run (read.offset + read.length)) run positions first last) e
-          ∙ sym (after_one (left_at run (read.offset + read.length)) run positions first last errors read)
+          ap (shown_errors (reads_at run (read.offset + read.length)) run positions first last) e
+          ∙ sym (after_one (reads_at run (read.offset + read.length)) run positions first last errors read)
           ∙ ap (λ (reads : List SourceRead). shown_errors reads run positions first last errors) (sym r.left.reads_are)
           ∙ k.left;
     }

@@ -1,6 +1,7 @@
 -- A walk over the reads of a run, from one `next_read` to the next: what its answer at a place says of the reads from there on.
 --     run_end, run_broken     there are none, and the run is whole or broken
 --     run_next                a read, and the reads from the next place on
+--     next_further, next_within     the next place, which lies further on and within the run
 -- Assumes nothing.
 use mathlib.Core.Path.{◌≡◌, refl, sym, ap, ◌∙◌}
 use borrow.Author.Tests.{leb-true}
@@ -114,3 +115,9 @@ module _ (run : List ℕ) (at : ℕ) where
 
   pub run_next : {read : SourceRead} → next_read run at ≡ Ok (Some read) → ReadsOn read
   run_next e = rw e at told
+
+  pub next_further : {read : SourceRead} → next_read run at ≡ Ok (Some read) → at < read.offset + read.length
+  next_further e = (run_next e).further
+
+  pub next_within : {read : SourceRead} → next_read run at ≡ Ok (Some read) → read.offset + read.length ≤ length run
+  next_within e = (run_next e).within

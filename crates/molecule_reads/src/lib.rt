@@ -10,12 +10,11 @@ ghost use Rattle.molecule_reads.specs.Run.{reads_of, next_read, counted};
 use fields::next_field;
 use molecule_fields::{is_read, read_flags};
 use refusals::Refusal;
-use source_reads::{
-    CombinedBases, ShownBases, SourceRead, add_read_errors, counted_length, expected_bases,
-};
+use source_reads::{CombinedBases, ExpectedBases, ShownBases, SourceRead, add_read_errors};
 
-// The read that begins at a place of a run, or none where no bytes are left. The next one begins at its offset plus its length. Refuses
-// by 13 where what is left does not begin with a whole field that is a read.
+// The read that begins at a place of a run, or none where no bytes are left. The next one begins at its offset plus its length
+// (`NextReads`). Refuses by 13 where what is left does not begin with a whole field that is a read.
+#[tactic(auto, using(crate::proofs::Next::clipped, crate::proofs::Next::none_next, crate::proofs::Next::cut_next, crate::proofs::Next::next_is, crate::proofs::Next::parted))]
 pub fn next_read(run: &[u8], at: usize) -> Result<Option<SourceRead>, Refusal>
     ensures { result ≡ next_read run.now at }
 {
@@ -43,6 +42,7 @@ pub struct ReadCount {
 }
 
 // How many reads a run has.
+#[tactic(auto, using(crate::proofs::Run::next_further, crate::proofs::Run::next_within, crate::proofs::Run::run_end, crate::proofs::Run::run_broken, crate::proofs::Counting::begin, crate::proofs::Counting::done, crate::proofs::Counting::done_broken))]
 pub fn count_reads(run: &[u8]) -> ReadCount
     ensures { result ≡ counted run.now }
 {
@@ -68,6 +68,7 @@ pub fn count_reads(run: &[u8]) -> ReadCount
 }
 
 // Adds the errors of each read of a run at the first positions, no more than there are numbers, against what it should show.
+#[tactic(auto, using(crate::proofs::Run::run_next, crate::proofs::Run::next_further, crate::proofs::Run::next_within, crate::proofs::Run::run_end, crate::proofs::Run::run_broken, crate::proofs::Errors::begin, crate::proofs::Errors::one_more, crate::proofs::Errors::done, crate::proofs::Errors::same_length))]
 fn count_shown_run(run: &[u8], shown: ShownBases<'_>, errors: &mut [u16])
     ensures { errors.new ≡ shown_errors (reads_of run.now) run.now shown.entry.positions shown.entry.first.now shown.entry.last.now errors.old }
 {
@@ -85,21 +86,6 @@ fn count_shown_run(run: &[u8], shown: ShownBases<'_>, errors: &mut [u16])
 pub fn count_run_errors(run: &[u8], s: CombinedBases<'_>, errors: &mut [u16])
     ensures { errors.new ≡ counted_errors (reads_of run.now) run.now s.entry.ct s.entry.positions s.entry.a.bases.now s.entry.a.quals.now s.entry.b.bases.now s.entry.b.quals.now errors.old }
 {
-    let positions = counted_length(
-        s.positions,
-        s.a.bases.len(),
-        s.a.quals.len(),
-        s.b.bases.len(),
-        s.b.quals.len(),
-        errors.len(),
-    );
-    let counted = CombinedBases { positions, ..s };
-    let first = expected_bases(counted, false);
-    let last = expected_bases(counted, true);
-    let shown = ShownBases {
-        positions,
-        first: &first,
-        last: &last,
-    };
-    count_shown_run(run, shown, errors);
+    let expected = ExpectedBases::counted(s, errors.len());
+    count_shown_run(run, expected.shown(), errors);
 }

@@ -13,7 +13,7 @@ ghost use Rattle.rust_thresholds.specs.Replies.{thresholds_reply, strand_number}
 use duplex_min_reads::{
     MinReads, allows_single_strand_consensus, min_yx_reads_for, validate_min_reads,
 };
-use duplex_partition::{MiStrand, extract_strand_from_mi_bytes};
+use duplex_partition::extract_strand_from_mi_bytes;
 use duplex_reads::{ReadType, written_flags};
 use refusals::Refusal;
 use replies::Number;
@@ -84,14 +84,10 @@ pub extern "C" fn gedrashiw_written_flags(read_type: u8) -> Number
     )
 }
 
-// 0 where no strand is named, 1 for A, 2 for B: the numbers that C sees.
+// 0 where no strand is named, 1 for A, 2 for B.
 #[unsafe(no_mangle)]
 pub extern "C" fn gedrashiw_extract_strand_from_mi_bytes(mi_bytes: &[u8]) -> u8
     ensures { result ≡ strand_number (strand_of mi_bytes.now) }
 {
-    match extract_strand_from_mi_bytes(mi_bytes) {
-        Some(MiStrand::A) => 1,
-        Some(MiStrand::B) => 2,
-        None => 0,
-    }
+    extract_strand_from_mi_bytes(mi_bytes).map_or(0, |strand| strand as u8)
 }

@@ -5,7 +5,7 @@
 --     same                 as many numbers as there were
 --     none_yet, next, all  a loop over the reads: at its start, after one more turn, and at its end
 --     after_one            a count of one read, then of the others
---     expected_room, expected_called, expected_uncalled, expected_length     the array of what reads should show: as it is written, and how long it is
+--     expected_called, expected_uncalled, expected_length     the array of what reads should show: as it is written, and how long it is
 --     none_counted, as_expected     of no position, nothing; by what is expected of reads, what they are to be counted for
 --     as_counted           from 0, with no more reads than 16 bits count: how many reads are errors
 --     few_errors           no more than there are reads
@@ -256,12 +256,6 @@ module _ (ct : CtInput) (last : Bool) (positions : ℕ) (bases_a quals_a bases_b
   pub expected_uncalled : ct ≡ Neither → {us : List ℕ} → us ≡ put (tabulate n (unmasked_at bases_a quals_a bases_b quals_b)) (replicate 1024 0) → us ≡ expected_bases ct last positions bases_a quals_a bases_b quals_b
   unfolding expected call_at
   expected_uncalled c h = expected_called (h ∙ ap (λ (t : CtInput). put (tabulate n (λ i. expected_at t bases_a quals_a bases_b quals_b i last)) (replicate 1024 0)) (sym c))
-
-pub expected_room : (positions : ℕ) (bases_a quals_a bases_b quals_b out : List ℕ) {n : ℕ}
-    → length out ≡ 1024
-    → n ≡ smallest (positions ∷ length bases_a ∷ length quals_a ∷ length bases_b ∷ length quals_b ∷ 1024 ∷ 1024 ∷ [])
-    → Within n bases_a quals_a bases_b quals_b out
-expected_room positions bases_a quals_a bases_b quals_b out long e = all_within positions bases_a quals_a bases_b quals_b out (e ∙ rw long)
 
 module _ (reads : List SourceRead) (bytes : List ℕ) (ct : CtInput) (positions : ℕ) (bases_a quals_a bases_b quals_b errors : List ℕ) where
   abbrev asked : ℕ

@@ -1,5 +1,6 @@
 -- Source reads and their errors, document 01.
-use Rattle.std.specs.Prelude.{ℕ, ◌+◌, Bool, false, cond, not, ◌&&◌, ◌||◌, ltb, length, get_or, replicate}
+use Rattle.std.specs.Prelude.{ℕ, ◌+◌, Bool, cond, not, ◌&&◌, ltb, length, get_or, replicate}
+use Rattle.std.specs.List.{list_any}
 use mathlib.Core.List.{List, [], ◌∷◌, foldl}
 use Rattle.lists.specs.Count.{count_of}
 use Rattle.lists.specs.Output.{put}
@@ -22,7 +23,7 @@ read_leaves n read = leaves read.offset read.length n
 
 -- Some read's part leaves a buffer of n bytes.
 unfoldable pub any_leaves : ℕ → List SourceRead → Bool
-any_leaves n reads = foldl (λ met read. met || read_leaves n read) false reads
+any_leaves n reads = list_any (read_leaves n) reads
 
 -- The read has a base at position i: its part lies within the bytes, and it is long enough.
 unfoldable pub reaches : List ℕ → ℕ → SourceRead → Bool

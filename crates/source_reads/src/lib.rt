@@ -2,7 +2,7 @@
 // at each position of a record. Uses lists, refusals, flags, duplex_molecule, duplex_position and duplex_call, and a law of numbers.
 #![tactic(auto)]
 
-ghost use Rattle.std.specs.Prelude.{◌≡◌, [], ◌∷◌, ◌<◌, ◌≤◌, length, get_or};
+ghost use Rattle.std.specs.Prelude.{◌≡◌, [], ◌∷◌, ◌<◌, ◌≤◌, length, get_or, true, false};
 ghost use Rattle.lists.specs.Output.{put};
 ghost use Rattle.lists.specs.Table.{tabulate};
 ghost use Rattle.numbers.specs.Numbers.{smallest};
@@ -24,6 +24,13 @@ pub struct SourceRead {
     pub flags: u16,
     pub offset: usize,
     pub length: usize,
+}
+
+// A list of reads, and the byte buffer that their bases are in.
+#[derive(Clone, Copy)]
+pub struct SourceReads<'a> {
+    pub reads: &'a [SourceRead],
+    pub bytes: &'a [u8],
 }
 
 // A strand's bases and qualities, which say what a read should show.
@@ -51,6 +58,16 @@ pub struct ShownBases<'a> {
     pub last: &'a [u8],
 }
 
+// The same worked out for the positions that are counted. No heap: arrays of the most that is looked at.
+#[derive(Clone, Copy)]
+pub struct ExpectedBases {
+    pub positions: usize,
+    pub first: [u8; 1024],
+    pub last: [u8; 1024],
+}
+
+// Not one with duplex_arrays' own, which reads whole strands: a public function for both could not ask that i is within, since none has a
+// `requires`.
 fn base_at(s: StrandBases<'_>, i: usize) -> StrandBase
     requires { (i < length s.bases.now) × (i < length s.quals.now) }
     ensures { result ≡ base_at (get_or s.entry.bases.now i 0) (get_or s.entry.quals.now i 0) }
@@ -66,10 +83,9 @@ fn base_at(s: StrandBases<'_>, i: usize) -> StrandBase
 pub fn list_leaves(reads: &[SourceRead], size: usize) -> bool
     ensures { result ≡ any_leaves size reads.now }
 {
-    // Every read is looked at, as in the definition: `any`, which stops at the first, was no quicker over duplex_partition's reads.
-    reads.iter().fold(false, |met, read| {
-        met | part_leaves(read.offset, read.length, size)
-    })
+    reads
+        .iter()
+        .any(|read| part_leaves(read.offset, read.length, size))
 }
 
 // As many positions as are asked for, no more than each array has, and no more than a strand may have. Of the arrays only how long
@@ -103,7 +119,8 @@ fn counted_within(s: CombinedBases<'_>, errors: usize) -> usize
     )
 }
 
-// The base before it is masked, where there is no call.
+// The base before it is masked, where there is no call: `combine_bases(a, b).raw`, by which the array of 150 positions takes 444 ns in place
+// of 84 to 120.
 #[tactic(auto, using(crate::proofs::Unmasked::b_wins, crate::proofs::Unmasked::a_wins))]
 fn unmasked_base(a: StrandBase, b: StrandBase) -> u8
     ensures { result ≡ (uncalled a.base a.qual b.base b.qual).raw }
@@ -130,6 +147,8 @@ struct Reaching<'a> {
 }
 
 // Writes what each read should show at the first positions where no position has a call.
+// Not one loop with `write_called` over a function that is passed in: of that, its contract could only say what it answers at each place. And
+// by `write_called`, which writes the same here, the array takes 148 ns in place of 84 at 150 positions, and 259 in place of 75 at 300.
 #[tactic(auto, using(lists::proofs::Output::begin, lists::proofs::Table::length_tabulate, lists::proofs::Told::next_table))]
 fn write_uncalled(reaching: Reaching<'_>, out: &mut [u8])
     requires { reaching.s.positions ≤ length out.old }
@@ -141,13 +160,14 @@ fn write_uncalled(reaching: Reaching<'_>, out: &mut [u8])
         b,
         ..
     } = reaching.s;
+    // By index, here and below: two arrays of each strand are read at the place where the output is written.
     for i in 0..positions {
         out[i] = unmasked_base(base_at(a, i), base_at(b, i));
     }
 }
 
 // Writes what reads with the flag 0x80, or those without it, should show at the first positions.
-// The flag is a read's own, whether it is the last of its pair; it is asked once for all positions.
+// `last` says whether a read is the last of its pair; `expected_base` chooses by it at each position.
 #[tactic(auto, using(lists::proofs::Output::begin, lists::proofs::Table::length_tabulate, lists::proofs::Told::next_table))]
 fn write_called(reaching: Reaching<'_>, last: bool, out: &mut [u8])
     requires { reaching.s.positions ≤ length out.old }
@@ -166,7 +186,6 @@ fn write_called(reaching: Reaching<'_>, last: bool, out: &mut [u8])
 
 // What reads with the flag 0x80, or those without it, should show at the first positions: as many as are asked for, and no more
 // than each array has. Behind them 0. Worked out once, it serves every read.
-// The flag is a read's own, whether it is the last of its pair; it is asked once for all positions.
 pub fn expected_bases(s: CombinedBases<'_>, last: bool) -> [u8; 1024]
     ensures { result ≡ expected_bases s.entry.ct last s.entry.positions s.entry.a.bases.now s.entry.a.quals.now s.entry.b.bases.now s.entry.b.quals.now }
 {
@@ -184,17 +203,51 @@ pub fn expected_bases(s: CombinedBases<'_>, last: bool) -> [u8; 1024]
     out
 }
 
-// Adds the errors of the first n bases of a read, against what it should show.
+impl ExpectedBases {
+    // What reads should show at the positions that are counted: as many as are asked for, no more than each array has, no more than there
+    // are numbers for their errors, and no more than a strand may have.
+    pub fn counted(s: CombinedBases<'_>, errors: usize) -> Self
+        ensures positions { result.positions ≡ smallest (s.entry.positions ∷ length s.entry.a.bases.now ∷ length s.entry.a.quals.now ∷ length s.entry.b.bases.now ∷ length s.entry.b.quals.now ∷ errors ∷ 1024 ∷ []) }
+        ensures first { result.first ≡ expected_bases s.entry.ct false result.positions s.entry.a.bases.now s.entry.a.quals.now s.entry.b.bases.now s.entry.b.quals.now }
+        ensures last { result.last ≡ expected_bases s.entry.ct true result.positions s.entry.a.bases.now s.entry.a.quals.now s.entry.b.bases.now s.entry.b.quals.now }
+    {
+        let positions = counted_within(s, errors);
+        let counted = CombinedBases { positions, ..s };
+        ExpectedBases {
+            positions,
+            first: expected_bases(counted, false),
+            last: expected_bases(counted, true),
+        }
+    }
+
+    pub fn shown(&self) -> ShownBases<'_>
+        ensures positions { result.positions ≡ self.now.positions }
+        ensures first { result.first.now ≡ self.now.first }
+        ensures last { result.last.now ≡ self.now.last }
+    {
+        ShownBases {
+            positions: self.positions,
+            first: &self.first,
+            last: &self.last,
+        }
+    }
+}
+
+// Adds the errors of the first n bases of a read, against what it should show. n stays beside the arrays: the numbers behind it stay as
+// they are, which of an output cut to n would have to be put together again.
 fn add_shown_errors(bases: &[u8], n: usize, shown: &[u8], errors: &mut [u16])
     requires { (n ≤ length bases.now) × (n ≤ length shown.now) × (n ≤ length errors.old) }
     ensures { errors.new ≡ bases_errors n bases.now (λ i. get_or shown.now i 0) errors.old }
 {
+    // By index: a number is read and written at the place of both bases.
     for i in 0..n {
         errors[i] = one_more(is_error(bases[i], shown[i]), errors[i]);
     }
 }
 
-// Adds the errors of a read at the first positions, no more than there are numbers, against what it should show.
+// Adds the errors of a read at the first positions, no more than there are numbers, against what it should show. The numbers stay beside
+// what is shown, here and below: they are the one output.
+#[tactic(auto, using(crate::proofs::Counted::either, crate::proofs::Counted::one_shown))]
 pub fn add_read_errors(read: SourceRead, bytes: &[u8], shown: ShownBases<'_>, errors: &mut [u16])
     ensures { errors.new ≡ shown_errors (read ∷ []) bytes.now shown.entry.positions shown.entry.first.now shown.entry.last.now errors.old }
 {
@@ -214,35 +267,23 @@ pub fn add_read_errors(read: SourceRead, bytes: &[u8], shown: ShownBases<'_>, er
 }
 
 // The same of each read.
-fn count_shown_errors(reads: &[SourceRead], bytes: &[u8], shown: ShownBases<'_>, errors: &mut [u16])
-    ensures { errors.new ≡ shown_errors reads.now bytes.now shown.entry.positions shown.entry.first.now shown.entry.last.now errors.old }
+fn count_shown_errors(list: SourceReads<'_>, shown: ShownBases<'_>, errors: &mut [u16])
+    ensures { errors.new ≡ shown_errors list.entry.reads.now list.entry.bytes.now shown.entry.positions shown.entry.first.now shown.entry.last.now errors.old }
 {
-    for &read in reads {
-        add_read_errors(read, bytes, shown, errors);
+    for &read in list.reads {
+        add_read_errors(read, list.bytes, shown, errors);
     }
 }
 
 // Adds the errors of each read at the first positions: as many as are asked for, no more than each array has, and no more than a
 // strand may have.
-pub fn count_read_errors(
-    reads: &[SourceRead],
-    bytes: &[u8],
-    s: CombinedBases<'_>,
-    errors: &mut [u16],
-)
-    ensures { errors.new ≡ counted_errors reads.now bytes.now s.entry.ct s.entry.positions s.entry.a.bases.now s.entry.a.quals.now s.entry.b.bases.now s.entry.b.quals.now errors.old }
+#[tactic(auto, using(crate::proofs::Counted::none_counted, crate::proofs::Counted::as_expected))]
+pub fn count_read_errors(list: SourceReads<'_>, s: CombinedBases<'_>, errors: &mut [u16])
+    ensures { errors.new ≡ counted_errors list.entry.reads.now list.entry.bytes.now s.entry.ct s.entry.positions s.entry.a.bases.now s.entry.a.quals.now s.entry.b.bases.now s.entry.b.quals.now errors.old }
 {
-    let positions = counted_within(s, errors.len());
-    if positions == 0 {
+    if counted_within(s, errors.len()) == 0 {
         return;
     }
-    let counted = CombinedBases { positions, ..s };
-    let first = expected_bases(counted, false);
-    let last = expected_bases(counted, true);
-    let shown = ShownBases {
-        positions,
-        first: &first,
-        last: &last,
-    };
-    count_shown_errors(reads, bytes, shown, errors);
+    let expected = ExpectedBases::counted(s, errors.len());
+    count_shown_errors(list, expected.shown(), errors);
 }

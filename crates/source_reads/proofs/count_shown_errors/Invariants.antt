@@ -4,4 +4,4 @@ use Rattle.source_reads.specs.Reads.{shown_errors}
 use Rattle.source_reads.proofs.count_shown_errors.Given as goal
 
 abbrev pub invariant-loop-read : goal.invariant-loop-read
-invariant-loop-read l = l.errors ≡ shown_errors (take l.read-index l.reads) l.bytes l.shown.positions l.shown.first.now l.shown.last.now l.initial.errors
+invariant-loop-read l = l.errors ≡ shown_errors (take l.read-index l.list.reads.now) l.list.bytes.now l.shown.positions l.shown.first.now l.shown.last.now l.initial.errors

@@ -1,17 +1,9 @@
 -- `source_reads::expected_bases` meets its contract: one of its loops fills the front of the array. Assumes nothing.
-use Prim.Native.Nat.{ℕ}
 use mathlib.Core.Path.{◌≡◌}
 use borrow.Author.Rules.{rules}
 use Rattle.duplex_molecule.specs.declared.CtInput.TheVariants.{Neither}
-use lib.ListN.{replicate, length-replicate}
-use Rattle.source_reads.proofs.Counted.{expected_room, expected_uncalled, expected_called}
+use Rattle.source_reads.proofs.Counted.{expected_uncalled, expected_called}
 use Rattle.source_reads.proofs.expected_bases.Goals as goal
-
-pub write_uncalled-requires : goal.write_uncalled-requires
-write_uncalled-requires c = (expected_room _ _ _ _ _ (replicate {A = ℕ} 1024 0) (length-replicate {A = ℕ} 1024 0) c.counted_within-positions.ensures).own
-
-pub write_called-requires : goal.write_called-requires
-write_called-requires c = (expected_room _ _ _ _ _ (replicate {A = ℕ} 1024 0) (length-replicate {A = ℕ} 1024 0) c.counted_within-positions.ensures).own
 
 pub returns-then-eq : goal.returns-then-eq
 returns-then-eq c =

@@ -10,8 +10,8 @@ use Rattle.lists.proofs.Indices.{Picking, begin, next}
 use Rattle.duplex_partition.specs.Partition.{read_strand, is_a, is_b}
 use Rattle.duplex_partition.specs.declared.MiPart.{MiPart}
 use Rattle.duplex_partition.specs.declared.MiStrand.{MiStrand}
-use Rattle.duplex_partition.proofs.write_partition.Goals as goal
-use Rattle.duplex_partition.proofs.write_partition.Goals.{in-Some-A, in-Some-B, in-None}
+use Rattle.duplex_partition.proofs.MiReads.write_partition.Goals as goal
+use Rattle.duplex_partition.proofs.MiReads.write_partition.Goals.{in-Some-A, in-Some-B, in-None}
 
 pub loop-i-init : goal.loop-i-init
 loop-i-init c =

@@ -1,7 +1,0 @@
--- What the loop keeps.
-use Rattle.std.proofs.Common.{◌≡◌, drop}
-use Rattle.duplex_partition.specs.Partition.{first_offence}
-use Rattle.duplex_partition.proofs.first_offence.Given as goal
-
-abbrev pub invariant-loop-read : goal.invariant-loop-read
-invariant-loop-read l = first_offence l.bytes (drop l.read-index l.reads) ≡ first_offence l.bytes l.reads
