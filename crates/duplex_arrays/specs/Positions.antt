@@ -1,5 +1,5 @@
 -- The arrays of a two-strand record, position by position, document 01: bases, qualities and errors.
-use Rattle.std.specs.Prelude.{ℕ, Bool, false, cond, ◌&&◌, ◌||◌, ◌≡◌, List, [], ◌∷◌, length, get_or}
+use Rattle.std.specs.Prelude.{ℕ, ◌<◌, Bool, false, cond, ◌&&◌, ◌||◌, ◌≡◌, List, [], ◌∷◌, length, get_or}
 use Rattle.lists.specs.Output.{put}
 use Rattle.lists.specs.Table.{tabulate}
 use Rattle.refusals.specs.Refusal.{too_short}
@@ -8,6 +8,7 @@ use Rattle.duplex_molecule.specs.Molecule.{can_call}
 use Rattle.duplex_molecule.specs.declared.CtInput.{CtInput}
 use Rattle.duplex_position.specs.declared.Position.{Position}
 use Rattle.duplex_call.specs.Annotated.{combined, estimated}
+use Rattle.duplex_arrays.specs.declared.PositionOutputs.{PositionOutputs}
 
 -- Base and quality at position i of strands A and B.
 abbrev pub position_of : CtInput → Arrays → Arrays → ℕ → Position
@@ -48,6 +49,10 @@ module _ {A : Type 0} where
   unfoldable pub unless_short : Bool → List A → List A
   unless_short short xs = cond short [] xs
 
+  -- Whatever a closure answers at a position below n is what is told of that position.
+  abbrev pub Tells : ℕ → (ℕ → A → Type 0) → (ℕ → A) → Type 0
+  Tells n answers told = (i : ℕ) → i < n → (x : A) → answers i x → x ≡ told i
+
 -- What is too short for base and quality of n positions, and for their errors.
 abbrev pub positions_short : ℕ → CtInput → Arrays → Arrays → List ℕ → List ℕ → Bool
 positions_short n ct a b bases quals =
@@ -67,3 +72,8 @@ pub record PositionsAs (n : ℕ) (ct : CtInput) (a b : Arrays) (bases quals base
 
 abbrev pub ErrorsAs : Bool → ℕ → CtInput → Arrays → Arrays → List ℕ → List ℕ → Type 0
 ErrorsAs listed n ct a b errors errors_now = errors_now ≡ put (unless_short (errors_short n a b errors) (combined_errors listed uncounted n ct a b)) errors
+
+-- A call that was lent the outputs for base and quality left each slice where it was, so that who lent them knows what it holds.
+pub record SamePositions (before now : PositionOutputs) : Type 0 where
+  pub bases : now.bases.ghost_name ≡ before.bases.ghost_name
+  pub quals : now.quals.ghost_name ≡ before.quals.ghost_name

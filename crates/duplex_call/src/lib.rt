@@ -13,14 +13,14 @@ use duplex_molecule::{CtInput, can_call};
 use duplex_position::{Position, StrandBase, combine_bases, combine_called};
 use methylation::ConversionPattern;
 
-// A strand's base with its informative mark, which a methylation call asks for.
+// A strand's base with its informative mark, which a methylation call asks for. A's and B's are two operands, as of a StrandBase.
 #[derive(Clone, Copy)]
 pub struct MarkedBase {
     pub shown: StrandBase,
     pub mark: u8,
 }
 
-// A strand's base with its depth and errors, which the errors' estimate asks for.
+// A strand's base with its depth and errors, which the errors' estimate asks for. Two operands, as of a StrandBase.
 #[derive(Clone, Copy)]
 pub struct CountedBase {
     pub shown: StrandBase,
@@ -30,7 +30,7 @@ pub struct CountedBase {
 
 // These functions choose between values and never between ways through the code, so that the loops over positions run on several
 // positions at once.
-// `first` chooses a value and no way through the code.
+// The flag is the condition itself, which each caller has from a comparison; both values are there before it.
 fn pick<T: Copy>(first: bool, a: T, b: T) -> T
     ensures { result ≡ cond first a b }
 {
@@ -43,7 +43,8 @@ fn ct_is_b(ct: CtInput) -> bool
     ct == CtInput::IsB
 }
 
-// Whether B is the informative strand of a call of a pattern, or else A.
+// Whether B is the informative strand of a call of a pattern, or else A. The pattern and `ct` come apart: a position has one `ct`, and
+// is asked of both patterns.
 #[tactic(auto, using(crate::proofs::Calls::informative))]
 fn informative_is_b(pattern: ConversionPattern, ct: CtInput) -> bool
     ensures { result ≡ by_b pattern ct }
@@ -51,18 +52,54 @@ fn informative_is_b(pattern: ConversionPattern, ct: CtInput) -> bool
     ct_is_b(ct) == (pattern == ConversionPattern::CToT)
 }
 
-// Whether there is a call of a pattern.
-#[tactic(auto, using(crate::proofs::Calls::of_test))]
-fn is_call_of(pattern: ConversionPattern, ct: CtInput, a_base: u8, b_base: u8) -> bool
-    ensures { result ≡ is_call_of (Some pattern) (call_at ct a_base b_base) }
-{
-    let by_b = informative_is_b(pattern, ct);
-    let shown = to_ascii_uppercase(pick(by_b, b_base, a_base));
-    let confirming = to_ascii_uppercase(pick(by_b, a_base, b_base));
-    let bases = pattern.bases();
-    can_call(ct)
-        & ((confirming == bases.unconverted)
-            & ((shown == bases.unconverted) | (shown == bases.converted)))
+// A position where there may be a methylation call: which strand is of pattern C to T, and the bases of A and B.
+#[derive(Clone, Copy)]
+pub struct Site {
+    pub ct: CtInput,
+    pub a: u8,
+    pub b: u8,
+}
+
+impl Site {
+    fn of(ct: CtInput, a: StrandBase, b: StrandBase) -> Self
+        ensures { result ≡ record { ct = ct; a = a.base; b = b.base } }
+    {
+        Site {
+            ct,
+            a: a.base,
+            b: b.base,
+        }
+    }
+
+    // Whether there is a call of a pattern.
+    #[tactic(auto, using(crate::proofs::Calls::of_test))]
+    fn is_call_of(self, pattern: ConversionPattern) -> bool
+        ensures { result ≡ is_call_of (Some pattern) (call_at self.ct self.a self.b) }
+    {
+        let by_b = informative_is_b(pattern, self.ct);
+        let shown = to_ascii_uppercase(pick(by_b, self.b, self.a));
+        let confirming = to_ascii_uppercase(pick(by_b, self.a, self.b));
+        let bases = pattern.bases();
+        can_call(self.ct)
+            & ((confirming == bases.unconverted)
+                & ((shown == bases.unconverted) | (shown == bases.converted)))
+    }
+
+    // Whether there is a call of either.
+    #[tactic(auto, using(crate::proofs::Calls::either))]
+    fn is_call(self) -> bool
+        ensures { result ≡ is_call (call_at self.ct self.a self.b) }
+    {
+        self.is_call_of(ConversionPattern::CToT) | self.is_call_of(ConversionPattern::GToA)
+    }
+
+    // Whether a strand of this annotation keeps its evidence: it is the informative one of a call.
+    #[tactic(auto, unfolding(duplex_molecule::specs::Molecule::is_call_of))]
+    pub fn keeps_evidence(self, annotation: Option<ConversionPattern>) -> bool
+        ensures { result ≡ is_call_of annotation (call_at self.ct self.a self.b) }
+    {
+        annotation.is_some_and(|pattern| self.is_call_of(pattern))
+    }
 }
 
 // Base and quality at a call of a pattern.
@@ -93,32 +130,12 @@ fn combine_at_call(
 pub fn combine_annotated(ct: CtInput, a: MarkedBase, b: MarkedBase) -> Position
     ensures { result ≡ combined ct a.shown.base a.shown.qual a.mark b.shown.base b.shown.qual b.mark }
 {
-    let c_to_t = is_call_of(ConversionPattern::CToT, ct, a.shown.base, b.shown.base);
-    let g_to_a = is_call_of(ConversionPattern::GToA, ct, a.shown.base, b.shown.base);
+    let site = Site::of(ct, a.shown, b.shown);
+    let c_to_t = site.is_call_of(ConversionPattern::CToT);
+    let g_to_a = site.is_call_of(ConversionPattern::GToA);
     let pattern = pick(c_to_t, ConversionPattern::CToT, ConversionPattern::GToA);
     let at_call = combine_at_call(pattern, ct, a, b);
     pick(c_to_t | g_to_a, at_call, combine_bases(a.shown, b.shown))
-}
-
-#[tactic(auto, using(crate::proofs::Calls::either))]
-fn is_call(ct: CtInput, a_base: u8, b_base: u8) -> bool
-    ensures { result ≡ is_call (call_at ct a_base b_base) }
-{
-    is_call_of(ConversionPattern::CToT, ct, a_base, b_base)
-        | is_call_of(ConversionPattern::GToA, ct, a_base, b_base)
-}
-
-// Whether a strand of this annotation keeps its evidence: it is the informative one of a call.
-#[tactic(auto, unfolding(duplex_molecule::specs::Molecule::is_call_of))]
-pub fn keeps_evidence(
-    annotation: Option<ConversionPattern>,
-    ct: CtInput,
-    a_base: u8,
-    b_base: u8,
-) -> bool
-    ensures { result ≡ is_call_of annotation (call_at ct a_base b_base) }
-{
-    annotation.is_some_and(|pattern| is_call_of(pattern, ct, a_base, b_base))
 }
 
 // The errors' estimate where there is no call. Of different bases that of the higher quality wins, A's where they are equal.
@@ -141,8 +158,9 @@ pub fn estimate_uncalled(a: CountedBase, b: CountedBase) -> u16
 pub fn estimate_errors(ct: CtInput, a: CountedBase, b: CountedBase) -> u16
     ensures { result ≡ estimated ct a.shown.base a.shown.qual a.depth a.errors b.shown.base b.shown.qual b.depth b.errors }
 {
+    let site = Site::of(ct, a.shown, b.shown);
     pick(
-        is_call(ct, a.shown.base, b.shown.base),
+        site.is_call(),
         estimate_agreeing(a.errors, b.errors),
         estimate_uncalled(a, b),
     )
@@ -150,7 +168,7 @@ pub fn estimate_errors(ct: CtInput, a: CountedBase, b: CountedBase) -> u16
 
 // What a source read should show at a position: the unmasked base, or at a call what its own strand should show. `last` says
 // that it has the flag 0x80.
-// The flag is a read's own, whether it is the last of its pair; it too chooses a value alone.
+// The flag is a read's own bit, whether it is the last of its pair, and the same over all positions; here it chooses values alone.
 #[tactic(auto, using(crate::proofs::Calls::expects))]
 pub fn expected_base(ct: CtInput, a: StrandBase, b: StrandBase, last: bool) -> u8
     ensures { result ≡ expected ct a.base a.qual b.base b.qual last }
@@ -159,13 +177,10 @@ pub fn expected_base(ct: CtInput, a: StrandBase, b: StrandBase, last: bool) -> u
     let at_c = pick(last, b'C', pick(is_b, b.base, a.base));
     let at_g = pick(last, pick(is_b, a.base, b.base), b'G');
     let raw = combine_bases(a, b).raw;
-    let uncalled_or_g = pick(
-        is_call_of(ConversionPattern::GToA, ct, a.base, b.base),
-        at_g,
-        raw,
-    );
+    let site = Site::of(ct, a, b);
+    let uncalled_or_g = pick(site.is_call_of(ConversionPattern::GToA), at_g, raw);
     pick(
-        is_call_of(ConversionPattern::CToT, ct, a.base, b.base),
+        site.is_call_of(ConversionPattern::CToT),
         at_c,
         uncalled_or_g,
     )

@@ -5,19 +5,21 @@
 ghost use Rattle.std.specs.Prelude.{◌≡◌, false, [], ◌∷◌, ◌≤◌, length};
 ghost use Rattle.lists.specs.Output.{put};
 ghost use Rattle.lists.specs.Table.{tabulate};
+ghost use Rattle.methylation.specs.Arrays.{HasPlaces};
 ghost use Rattle.methylation.specs.Outputs.{evidence_out, SameEvidence};
-ghost use Rattle.vanilla_caller.specs.Strand.{arrays_in};
+ghost use Rattle.vanilla_caller.specs.Strand.{annotation_in, arrays_in};
 ghost use Rattle.duplex_arrays.specs.Positions.{arrays_short};
 ghost use Rattle.duplex_evidence.specs.Kept.{mark_of, marked_at, EvidenceAs};
 
-use duplex_call::keeps_evidence;
+use duplex_call::Site;
 use duplex_molecule::CtInput;
 use methylation::{
     ConversionPattern, EvidenceLengths, EvidenceOutputs, EvidenceSlices, evidence_if,
 };
 use vanilla_caller::VanillaConsensusRead;
 
-// Whether one of these lengths is below n. The marks that a strand has are not looked at.
+// Whether one of these lengths is below n. The marks that a strand has are not looked at. A and B are two operands, here and below:
+// each caller has them as two.
 #[tactic(auto, unfolding(duplex_arrays::specs::Positions::arrays_short))]
 fn evidence_short(
     n: usize,
@@ -32,7 +34,7 @@ fn evidence_short(
     read | ((out.marks < n) | ((out.unconverted < n) | (out.converted < n)))
 }
 
-// The marks of the first n positions.
+// The marks of the first n positions. Here and below n stands beside whole outputs: that they stay as they were past it is promised too.
 #[tactic(auto, using(lists::proofs::Output::begin, lists::proofs::Table::length_tabulate, lists::proofs::Told::next_table))]
 fn fill_marks(
     annotation: Option<ConversionPattern>,
@@ -45,25 +47,31 @@ fn fill_marks(
     requires { (n ≤ length a_bases.now) × (n ≤ length b_bases.now) × (n ≤ length marks_out.old) }
     ensures { marks_out.new ≡ put (tabulate n (mark_of ct annotation a_bases.now b_bases.now)) marks_out.old }
 {
+    // By index: two arrays are read and one is written at the same place.
     for i in 0..n {
-        marks_out[i] = u8::from(keeps_evidence(annotation, ct, a_bases[i], b_bases[i]));
+        let site = Site {
+            ct,
+            a: a_bases[i],
+            b: b_bases[i],
+        };
+        marks_out[i] = u8::from(site.keeps_evidence(annotation));
     }
 }
 
-// The counts of the first n positions, where they are marked.
+// The counts of the first n positions, where those are marked.
 #[tactic(auto, using(lists::proofs::Output::begin, lists::proofs::Table::length_tabulate, lists::proofs::Told::next_table))]
-fn fill_counts(
-    own: EvidenceSlices,
-    marks: &[u8],
-    n: usize,
-    unconverted_out: &mut [u32],
-    converted_out: &mut [u32],
-)
-    requires n_in_bounds { (n ≤ length marks.now) × (n ≤ length own.unconverted.now) × (n ≤ length own.converted.now) }
-    requires n_in_bounds_2 { (n ≤ length unconverted_out.old) × (n ≤ length converted_out.old) }
-    ensures unconverted_out_after { unconverted_out.new ≡ put (tabulate n (λ i. (marked_at marks.now own.entry.unconverted.now own.entry.converted.now i).unconverted)) unconverted_out.old }
-    ensures converted_out_after { converted_out.new ≡ put (tabulate n (λ i. (marked_at marks.now own.entry.unconverted.now own.entry.converted.now i).converted)) converted_out.old }
+fn fill_counts(own: EvidenceSlices, n: usize, out: &mut EvidenceOutputs<'_>)
+    requires own { (n ≤ length own.unconverted.now) × (n ≤ length own.converted.now) }
+    requires room { HasPlaces n (evidence_out out.old) }
+    ensures same_references { SameEvidence out.old out.new }
+    ensures marks { out.new.marks.now ≡ out.old.marks.now }
+    ensures unconverted { out.new.unconverted.now ≡ put (tabulate n (λ i. (marked_at out.old.marks.now own.entry.unconverted.now own.entry.converted.now i).unconverted)) out.old.unconverted.now }
+    ensures converted { out.new.converted.now ≡ put (tabulate n (λ i. (marked_at out.old.marks.now own.entry.unconverted.now own.entry.converted.now i).converted)) out.old.converted.now }
 {
+    let marks = &mut *out.marks;
+    let unconverted_out = &mut *out.unconverted;
+    let converted_out = &mut *out.converted;
+    // By index: three arrays are read and two are written at the same place.
     for i in 0..n {
         let e = evidence_if(marks[i] != 0, own.unconverted[i], own.converted[i]);
         unconverted_out[i] = e.unconverted;
@@ -73,7 +81,8 @@ fn fill_counts(
 
 // Writes the evidence of one of the strands A and B, where it is annotated, at the first n positions; nothing where an array is
 // shorter than n. The marks come first, since bytes alone go 16 at once, then each count by its mark.
-// The strands and n come apart: that the arrays reach n is what is tested here.
+// Of A and B the bases are looked at, of the strand its two counts; other arrays may be empty. The strands and n come apart: that
+// the arrays reach n is what is tested here.
 #[tactic(auto, using(lists::proofs::Output::put_none, crate::proofs::Kept::by_marks, lists::proofs::Output::put_holds, lists::proofs::Table::length_tabulate), unfolding(duplex_arrays::specs::Positions::arrays_short, duplex_arrays::specs::Positions::unless_short, lists::specs::Part::only_if, crate::specs::Kept::kept_marks, crate::specs::Kept::kept_unconverted, crate::specs::Kept::kept_converted))]
 pub fn write_evidence(
     ct: CtInput,
@@ -84,21 +93,20 @@ pub fn write_evidence(
     out: &mut EvidenceOutputs<'_>,
 )
     ensures same_references { SameEvidence out.old out.new }
-    ensures written { EvidenceAs n ct (arrays_in a.entry) (arrays_in b.entry) own.entry.annotation (arrays_in own.entry) (evidence_out out.old) (evidence_out out.new) }
+    ensures written { EvidenceAs n ct (arrays_in a.entry) (arrays_in b.entry) (annotation_in own.entry) (arrays_in own.entry) (evidence_out out.old) (evidence_out out.new) }
 {
-    if own.annotation.is_none() {
+    let Some(annotation) = own.methylation else {
         return;
-    }
+    };
     if evidence_short(
         n,
         a.bases.len(),
         b.bases.len(),
-        own.evidence.lengths(),
+        annotation.evidence.lengths(),
         out.lengths(),
     ) {
         return;
     }
-    let marks = &mut *out.marks;
-    fill_marks(own.annotation, ct, a.bases, b.bases, n, marks);
-    fill_counts(own.evidence, marks, n, out.unconverted, out.converted);
+    fill_marks(Some(annotation.pattern), ct, a.bases, b.bases, n, out.marks);
+    fill_counts(annotation.evidence, n, out);
 }

@@ -8,7 +8,8 @@ ghost use Rattle.duplex_position.specs.Combination.{agreed, disagreed, masked, u
 use dna::NO_CALL_BASE;
 use phred::{MIN_PHRED, cap_quality};
 
-// The base that a strand shows, and its quality.
+// The base that a strand shows, and its quality. Functions take A's and B's as two operands: a struct of both would only be taken
+// apart, since each is asked both ways round.
 #[derive(Clone, Copy)]
 pub struct StrandBase {
     pub base: u8,
@@ -28,7 +29,7 @@ pub struct Position {
 fn agreed_quality(a_qual: u8, b_qual: u8) -> u8
     ensures { result ≡ agreed a_qual b_qual }
 {
-    cap_quality(a_qual as u16 + b_qual as u16)
+    cap_quality(u16::from(a_qual) + u16::from(b_qual))
 }
 
 // The strands disagree: the difference of their qualities is left.
@@ -36,7 +37,7 @@ fn agreed_quality(a_qual: u8, b_qual: u8) -> u8
 fn disagreed_quality(a_qual: u8, b_qual: u8) -> u8
     ensures { result ≡ disagreed a_qual b_qual }
 {
-    cap_quality((a_qual.max(b_qual) - a_qual.min(b_qual)) as u16)
+    cap_quality(u16::from(a_qual.abs_diff(b_qual)))
 }
 
 // N with the lowest quality where either strand shows N or the quality is the lowest.
@@ -87,7 +88,7 @@ pub fn combine_called(
     ensures { result ≡ called a.base a.qual b.base b.qual confirmed confirming_alone confirming_qual }
 {
     if confirming_alone {
-        return masked_position(a, b, confirmed, cap_quality(confirming_qual as u16));
+        return masked_position(a, b, confirmed, cap_quality(u16::from(confirming_qual)));
     }
     masked_position(a, b, confirmed, agreed_quality(a.qual, b.qual))
 }

@@ -1,5 +1,5 @@
 -- The claim of specs/Absent.antt. Assumes nothing.
-use mathlib.Core.Path.{◌≡◌, refl, ap}
+use mathlib.Core.Path.{◌≡◌, refl, ap, ◌∙◌}
 use mathlib.Core.Bool.{Bool, true, false, cond}
 use mathlib.Core.List.{[], ◌∷◌, ◌++◌}
 use Prim.Native.Nat.{ℕ}
@@ -11,10 +11,13 @@ use Rattle.refusals.specs.Outcome.{answer}
 use Rattle.methylation.specs.declared.ConversionPattern.{ConversionPattern}
 use Rattle.vanilla_caller.specs.Strand.{Arrays}
 use Rattle.duplex_outputs.specs.Outputs.{RecordArrays, LeavesRecord}
-use Rattle.duplex_kind.specs.Absent.{absent}
-use Rattle.duplex_kind.specs.Kind.{Strand, kind_of, strand_faults}
+use Rattle.duplex_kind.specs.Absent.{absent, seen_of}
+use Rattle.duplex_kind.specs.Kind.{Strand, Given, given, kind_of, given_faults, strand_faults}
 use Rattle.duplex_kind.specs.declared.DuplexConsensus.{DuplexConsensus}
-use Rattle.duplex_kind.specs.declared.DuplexConsensus.TheVariants.{Ab, Ba}
+use Rattle.duplex_kind.specs.declared.DuplexConsensus.TheVariants.{Ab, Ba, Both}
+use Rattle.duplex_kind.proofs.Absent.{given_seen}
+use Rattle.duplex_single.proofs.Absent.{single_seen}
+use Rattle.duplex_strands.proofs.Absent.{both_seen}
 use Rattle.duplex_record.specs.Record.{record_arrays, outputs_short, duplex_refused, DuplexAs}
 use Rattle.duplex_record.specs.Absent.{NotLookedAt}
 
@@ -35,6 +38,13 @@ module _ (s t other : Strand) (k : ℕ) (listed : Bool) (f g : ℕ → ℕ) (out
   arrays_second : (met : Bool) → record_arrays other s listed f (cond met (Some (Ab k)) None) ≡ record_arrays other t listed g (cond met (Some (Ab k)) None)
   arrays_second true = refl
   arrays_second false = refl
+
+-- What is written of the strands, as far as their evidence is looked at.
+record_seen : (a b : Strand) (listed : Bool) (f : ℕ → ℕ) (k : Option DuplexConsensus) → record_arrays (seen_of a) (seen_of b) listed f k ≡ record_arrays a b listed f k
+record_seen a b listed f None = refl
+record_seen a b listed f (Some (Ab n)) = single_seen a.annotation a.arrays
+record_seen a b listed f (Some (Ba n)) = single_seen b.annotation b.arrays
+record_seen a b listed f (Some (Both n)) = both_seen listed f n a.annotation a.arrays b.annotation b.arrays
 
 -- The same answer, and the same that is left.
 moved : (kind : Option DuplexConsensus) {n m : Option Refusal} {v w before now : RecordArrays} {r : Result (Option DuplexConsensus) Refusal}
@@ -60,9 +70,19 @@ module _ (f g : ℕ → ℕ) (listed : Bool) (count : ℕ) (leaving : Bool) (bef
       let (answered, outputs) = moved (kind_of a s) {n = duplex_refused a s listed count leaving before} {m = duplex_refused a t listed count leaving before} rows (arrays_second s t a _ listed f g before _) (d.answered, d.outputs) in
       record { answered = answered; outputs = outputs }
 
+  evidence : (a b : Strand) → DuplexAs (seen_of a) (seen_of b) listed count leaving f before now r → DuplexAs a b listed count leaving f before now r
+  evidence a b d =
+      let last = (OutputTooShort if outputs_short a b before (kind_of a b)) ∷ [] in
+      let rows : duplex_refused (seen_of a) (seen_of b) listed count leaving before ≡ duplex_refused a b listed count leaving before =
+      ap (λ (g : Given). refused (given_faults g (given (seen_of b)) listed count leaving ++ last)) (given_seen a)
+      ∙ ap (λ (g : Given). refused (given_faults (given a) g listed count leaving ++ last)) (given_seen b) in
+      let (answered, outputs) = moved (kind_of a b) rows (record_seen a b listed f (kind_of a b)) (d.answered, d.outputs) in
+      record { answered = answered; outputs = outputs }
+
   pub not_looked_at : NotLookedAt f g listed count leaving before now r
   not_looked_at = record {
     first = first;
     second = second;
     list = λ a b other leaves d. record { answered = d.answered; outputs = d.outputs };
+    evidence = evidence;
   }

@@ -25,7 +25,7 @@ use Rattle.duplex_kind.specs.Kind.{Strand, Given, given, positions, kind_of, str
 use Rattle.duplex_kind.specs.declared.DuplexConsensus.{DuplexConsensus}
 use Rattle.duplex_kind.specs.declared.DuplexConsensus.TheVariants.{Ab, Ba, Both}
 use Rattle.duplex_kind.proofs.Kind.{Passes, is_refused, is_none, is_ab, is_ba, is_both}
-use Rattle.vanilla_caller.specs.Strand.{arrays_in}
+use Rattle.vanilla_caller.specs.Strand.{annotation_in, arrays_in}
 use Rattle.vanilla_caller.specs.declared.VanillaConsensusRead.{VanillaConsensusRead}
 use Rattle.duplex_record.specs.Parts.{lent_as, made_of}
 use Rattle.duplex_record.specs.Record.{nothing, record_arrays, outputs_short, duplex_refused, DuplexAs}
@@ -41,12 +41,12 @@ pub kind_told :
 kind_told a b listed count leaving e f g h = sym (rw (e, f) at g) ∙ h
 
 module _ {before now : RecordArrays} {r : Result ℕ Refusal} where
-  pub lent_single : {a : Strand} {p : Bool} (s : VanillaConsensusRead) → a ≡ lent_as p s → SingleAs s.annotation (arrays_in s) before now r → SingleAs a.annotation a.arrays before now r
+  pub lent_single : {a : Strand} {p : Bool} (s : VanillaConsensusRead) → a ≡ lent_as p s → SingleAs (annotation_in s) (arrays_in s) before now r → SingleAs a.annotation a.arrays before now r
   lent_single s e h = subst (λ (x : Strand). SingleAs x.annotation x.arrays before now r) (sym e) h
 
-  pub lent_combined : {a b : Strand} {p q listed : Bool} (s t : VanillaConsensusRead) → a ≡ lent_as p s → b ≡ lent_as q t → CombinedAs (ct_input s.annotation t.annotation) s.annotation (arrays_in s) t.annotation (arrays_in t) listed before now r → CombinedAs (ct_input a.annotation b.annotation) a.annotation a.arrays b.annotation b.arrays listed before now r
+  pub lent_combined : {a b : Strand} {p q listed : Bool} (s t : VanillaConsensusRead) → a ≡ lent_as p s → b ≡ lent_as q t → CombinedAs (ct_input (annotation_in s) (annotation_in t)) (annotation_in s) (arrays_in s) (annotation_in t) (arrays_in t) listed before now r → CombinedAs (ct_input a.annotation b.annotation) a.annotation a.arrays b.annotation b.arrays listed before now r
   lent_combined {a} {b} {p} {q} {listed} s t e f h =
-      subst (λ (x : Strand). CombinedAs (ct_input x.annotation b.annotation) x.annotation x.arrays b.annotation b.arrays listed before now r) (sym e) (subst (λ (y : Strand). CombinedAs (ct_input s.annotation y.annotation) s.annotation (arrays_in s) y.annotation y.arrays listed before now r) (sym f) h)
+      subst (λ (x : Strand). CombinedAs (ct_input x.annotation b.annotation) x.annotation x.arrays b.annotation b.arrays listed before now r) (sym e) (subst (λ (y : Strand). CombinedAs (ct_input (annotation_in s) y.annotation) (annotation_in s) (arrays_in s) y.annotation y.arrays listed before now r) (sym f) h)
 
 -- The outputs to which a strand alone goes.
 abbrev pub first_strand : RecordArrays → RecordArrays

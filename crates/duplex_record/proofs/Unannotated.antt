@@ -3,11 +3,13 @@ use mathlib.Core.Path.{◌≡◌, refl}
 use mathlib.Core.Bool.{Bool, false, ◌||◌, true≢false}
 use mathlib.Core.List.{[]}
 use Prim.Native.Nat.{ℕ}
-use Rattle.std.proofs.Common.{None, Some, Option, Result}
+use Rattle.std.proofs.Common.{None, Some, Option, Result, is_some}
 use Rattle.lists.specs.Part.{only_if}
 use Rattle.refusals.specs.declared.Refusal.{Refusal}
+use Rattle.methylation.specs.Annotation.{pattern_held}
 use Rattle.methylation.specs.Methylation.{is_annotated}
 use Rattle.methylation.specs.declared.ConversionPattern.{ConversionPattern}
+use Rattle.methylation.specs.declared.MethylationAnnotation.{MethylationAnnotation}
 use Rattle.vanilla_caller.specs.Strand.{Arrays}
 use Rattle.duplex_molecule.specs.Molecule.{ct_input}
 use Rattle.duplex_molecule.specs.declared.CtInput.TheVariants.{Neither}
@@ -41,6 +43,12 @@ none_annotated : (m n : Option ConversionPattern) → (is_annotated m || is_anno
 none_annotated None None e = (refl, refl)
 none_annotated None (Some q) e = absurd (true≢false e)
 none_annotated (Some p) n e = absurd (true≢false e)
+
+-- Where neither strand has an annotation, neither has its pattern.
+pub none_held : (m n : Option MethylationAnnotation) → (is_some m || is_some n) ≡ false → (is_annotated (pattern_held m) || is_annotated (pattern_held n)) ≡ false
+none_held None None e = refl
+none_held None (Some q) e = absurd (true≢false e)
+none_held (Some p) n e = absurd (true≢false e)
 
 -- Annotations ma and mb of strands a and b.
 pub unannotated :

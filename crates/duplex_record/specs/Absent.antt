@@ -1,10 +1,11 @@
--- Nothing of a strand that is not present, or of a list that is not there, is looked at. Proved in proofs/Absent.antt.
+-- Nothing of a strand that is not present, or of a list that is not there, is looked at, nor evidence without an annotation. Proved in
+-- proofs/Absent.antt.
 use Rattle.std.specs.Prelude.{Option, Result, Bool, false, ℕ}
 use Rattle.refusals.specs.declared.Refusal.{Refusal}
 use Rattle.methylation.specs.declared.ConversionPattern.{ConversionPattern}
 use Rattle.vanilla_caller.specs.Strand.{Arrays}
 use Rattle.duplex_outputs.specs.Outputs.{RecordArrays}
-use Rattle.duplex_kind.specs.Absent.{absent}
+use Rattle.duplex_kind.specs.Absent.{absent, seen_of}
 use Rattle.duplex_kind.specs.Kind.{Strand}
 use Rattle.duplex_kind.specs.declared.DuplexConsensus.{DuplexConsensus}
 use Rattle.duplex_record.specs.Record.{DuplexAs}
@@ -23,3 +24,7 @@ pub record NotLookedAt (f g : ℕ → ℕ) (listed : Bool) (count : ℕ) (leavin
       (a b : Strand) (other : ℕ) (leaves : Bool)
       → DuplexAs a b false count leaving f before now r
       → DuplexAs a b false other leaves f before now r
+  pub evidence :
+      (a b : Strand)
+      → DuplexAs (seen_of a) (seen_of b) listed count leaving f before now r
+      → DuplexAs a b listed count leaving f before now r

@@ -17,7 +17,7 @@ use duplex_kind::{given_strand, record_kind};
 use duplex_outputs::RecordOutputs;
 use duplex_single::gated_single_strand;
 use duplex_strands::combine_strands;
-use methylation::{EvidenceOutputs, EvidenceSlices};
+use methylation::EvidenceOutputs;
 use refusals::Refusal;
 use vanilla_caller::VanillaConsensusRead;
 
@@ -25,20 +25,11 @@ use vanilla_caller::VanillaConsensusRead;
 fn lent<'a>(s: Option<VanillaConsensusRead<'a>>) -> VanillaConsensusRead<'a>
     ensures { given_of s.entry ≡ lent_as (is_some s.entry) result }
 {
-    s.unwrap_or(VanillaConsensusRead {
-        bases: &[],
-        quals: &[],
-        depths: &[],
-        errors: &[],
-        annotation: None,
-        evidence: EvidenceSlices {
-            marks: &[],
-            unconverted: &[],
-            converted: &[],
-        },
-    })
+    s.unwrap_or(VanillaConsensusRead::new(&[], &[], &[], &[]))
 }
 
+// A and B are two operands, which each caller has as two; their outputs come as three structs: one of these was tried, and who makes it
+// learns nothing of what its slices hold.
 // The record of two strands, of one or of none. One strand alone goes to the first strand's outputs. Where reads are listed, the
 // errors of a record of two strands are left 0, to be counted. Refuses by 7, 8, 9, 10 whatever the record, then by 12 for what is
 // written.
@@ -69,7 +60,7 @@ pub fn duplex_record(
             DuplexConsensus::Ba(n),
         )),
         DuplexConsensus::Both(_) => {
-            if a.annotation.is_some() | b.annotation.is_some() {
+            if a.methylation.is_some() | b.methylation.is_some() {
                 return combine_strands_annotated(a, b, list.is_some(), out, a_out, b_out).map(
                     |n| Some(DuplexConsensus::Both(n)),
                 );
@@ -83,13 +74,11 @@ pub fn duplex_record(
 fn plain<'a>(s: Option<VanillaConsensusRead<'a>>) -> Option<VanillaConsensusRead<'a>>
     ensures { given_of result ≡ plain_of s.entry }
 {
-    s.map(|s| VanillaConsensusRead {
-        annotation: None,
-        ..s
-    })
+    s.map(|s| s.plain())
 }
 
-// The same of strands without their annotations, whose evidence goes nowhere.
+// The same of strands without their annotations, whose evidence goes nowhere: these are not looked at. Of the reads their number and
+// `leaving` are, as there.
 pub fn plain_record(
     a: Option<VanillaConsensusRead>,
     b: Option<VanillaConsensusRead>,

@@ -1,6 +1,6 @@
 // Two strands combined position by position, from duplex_caller.rs (combine_strands): what refuses them, what is written of them
 // (specs/Combine.antt), and the call for strands without annotation. Uses lists, refusals, methylation, vanilla_caller,
-// duplex_molecule, duplex_arrays, duplex_evidence and duplex_outputs.
+// duplex_molecule, duplex_arrays, duplex_evidence and duplex_outputs, and a law of duplex_call.
 #![tactic(auto)]
 
 ghost use Rattle.std.specs.Prelude.{◌≡◌, None};
@@ -12,13 +12,13 @@ ghost use Rattle.duplex_molecule.specs.declared.CtInput.TheVariants.{Neither};
 ghost use Rattle.duplex_outputs.specs.Lent.{record_out, SameOutputs};
 ghost use Rattle.duplex_strands.specs.Combine.{common_length, combine_faults, CombinedAs};
 
-use duplex_arrays::{write_errors, write_positions};
+use duplex_arrays::{PositionOutputs, write_errors, write_positions};
 use duplex_molecule::CtInput;
 use duplex_outputs::{RecordLengths, RecordOutputs, record_too_short};
 use refusals::{Refusal, refuse};
 use vanilla_caller::{Lengths, VanillaConsensusRead, strand_ragged, strand_too_long};
 
-// How many positions two strands have in common.
+// How many positions two strands have in common. A and B are two operands, here and below: each caller has them as two.
 pub fn common_length(a: Lengths, b: Lengths) -> usize
     ensures { result ≡ common_length a b }
 {
@@ -51,17 +51,15 @@ pub fn combine_strands(
         (record_out out.new no_evidence no_evidence)
         result }
 {
-    let a = VanillaConsensusRead {
-        annotation: None,
-        ..a
-    };
-    let b = VanillaConsensusRead {
-        annotation: None,
-        ..b
-    };
+    let a = a.plain();
+    let b = b.plain();
     let room = out.lengths(None, None);
     let n = combined_length(a.lengths(), b.lengths(), room)?;
-    write_positions(CtInput::Neither, a, b, n, out.bases, out.quals);
+    let mut positions = PositionOutputs {
+        bases: &mut *out.bases,
+        quals: &mut *out.quals,
+    };
+    write_positions(CtInput::Neither, a, b, n, &mut positions);
     write_errors(CtInput::Neither, listed, a, b, n, out.errors);
     Ok(n)
 }

@@ -1,9 +1,10 @@
 -- Laws of what is written to a lent output, place by place, and of counts that one more read is added to.
 --     Adding                     the invariant of a loop that adds one more where a position is met: start, few, further, all_added
+--     fewer                      one more can be added to fewer counts too
 --     fewer_places               positions that are not met need no store
 --     one_read_more              one more read, of counts that are a table
 --     filled                     places that are filled with one value
---     one_added, flag_small      a flag as a number
+--     one_added, flag_byte, flag_small     a flag as a number
 -- Assumes nothing.
 use mathlib.Core.Path.{◌≡◌, refl, sym, ap, ◌∙◌}
 use mathlib.Core.Bool.{Bool, true, false, cond}
@@ -20,7 +21,7 @@ use Rattle.lists.specs.Table.{tabulate}
 use Rattle.lists.proofs.Output.{length_put, Filling, begin, same, next, done}
 use Rattle.lists.proofs.Table.{length_tabulate, get_d_tabulate}
 use Rattle.lists.proofs.Written.{table_front, table_behind, unwritten}
-use Rattle.simplex_methylation.specs.Simplex.{added, Below}
+use Rattle.simplex_methylation.specs.Simplex.{added, Below, Countable}
 
 -- A place is below n, or not.
 pub by_place : (i n : ℕ) {P : Type 0} → (i < n → P) → (n ≤ i → P) → P
@@ -44,6 +45,10 @@ pub one_added : (b : Bool) (n : ℕ) → n + bool_byte b ≡ cond b (n + 1) n
 one_added true n = refl
 one_added false n = omega arith
 
+pub flag_byte : (b : Bool) → bool_byte b ≡ cond b 1 0
+flag_byte true = refl
+flag_byte false = refl
+
 pub flag_small : (b : Bool) → bool_byte b ≤ 1
 flag_small true = omega arith
 flag_small false = omega arith
@@ -59,9 +64,13 @@ pub record Adding (n : ℕ) (met : ℕ → Bool) (before : List ℕ) (i : ℕ) (
   pub room : n ≤ length before
   pub as_long : length now ≡ length before
 
-pub start : {n : ℕ} (met : ℕ → Bool) {before : List ℕ} → (n ≤ length before) × Below 1024 n before → Adding n met before 0 before
+-- Of fewer counts too.
+pub fewer : {m n : ℕ} {so_far : List ℕ} → m ≤ n → Countable n so_far → Countable m so_far
+fewer h c = record { room = omega (arith, c.room); below = λ i l. c.below i (omega arith) }
+
+pub start : {n : ℕ} {met : ℕ → Bool} {before : List ℕ} → Countable n before → Adding n met before 0 before
 unfolding added
-start {n} met h = record { filling = begin (length_tabulate n _) h.0; below = h.1; room = h.0; as_long = refl }
+start {n} h = record { filling = begin (length_tabulate n _) h.room; below = h.below; room = h.room; as_long = refl }
 
 module _ {n : ℕ} {met : ℕ → Bool} {before : List ℕ} {i : ℕ} {now : List ℕ} (a : Adding n met before i now) where
   pub few : i < n → get_or now i 0 < 1024

@@ -1,5 +1,5 @@
 -- The methylation evidence of a simplex consensus, from its source reads and the reference: at each position a mark and two counts.
-use Rattle.std.specs.Prelude.{ℕ, ◌+◌, ◌<◌, ◌≡◌, Bool, true, cond, not, ◌&&◌, Option, Some, None, Result, List, [], ◌∷◌, eqb, length, get_or, option_map}
+use Rattle.std.specs.Prelude.{ℕ, ◌+◌, ◌<◌, ◌≤◌, ◌≡◌, Bool, true, cond, not, ◌&&◌, Option, Some, None, Result, List, [], ◌∷◌, eqb, length, get_or, option_map}
 use Rattle.lists.specs.Count.{count_of}
 use Rattle.lists.specs.Output.{put}
 use Rattle.lists.specs.Table.{tabulate}
@@ -64,6 +64,13 @@ shown s letter i read =
     && (counts_at s.aligned (pattern_bases s.pattern).reference s.reference read.offset i
     && base_is letter s.bytes read.offset i)
 
+-- Base i of a read's bases is the letter; and one that is aligned is it, at an informative position.
+abbrev pub shows : ℕ → List ℕ → ℕ → Bool
+shows letter bases i = is_letter letter (get_or bases i 0)
+
+abbrev pub shows_aligned : ℕ → ℕ → List ℕ → List ℕ → List ℕ → ℕ → Bool
+shows_aligned base_of letter reference aligned bases i = (informative base_of reference i && not (eqb (get_or aligned i 0) 0)) && shows letter bases i
+
 -- The marks of n positions, 1 where informative.
 unfoldable pub marks_of : ℕ → List ℕ → ℕ → List ℕ
 marks_of letter reference n = tabulate n (λ i. cond (informative letter reference i) 1 0)
@@ -79,6 +86,11 @@ added n met so_far = tabulate n (λ i. cond (met i) (get_or so_far i 0 + 1) (get
 -- Each of the first n counts is below a limit.
 abbrev pub Below : ℕ → ℕ → List ℕ → Type 0
 Below limit n so_far = (i : ℕ) → i < n → get_or so_far i 0 < limit
+
+-- One more of at most 1,024 reads can be added to the first n counts.
+pub record Countable (n : ℕ) (so_far : List ℕ) : Type 0 where
+  pub room : n ≤ length so_far
+  pub below : Below 1024 n so_far
 
 -- Whether the pattern stands for nothing, the length of the consensus, the number of reads, whether a read's part leaves its bytes, and the lengths of the outputs.
 abbrev pub simplex_faults : Bool → ℕ → ℕ → Bool → List ℕ → List Fault

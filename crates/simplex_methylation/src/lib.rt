@@ -2,27 +2,28 @@
 // methylation, replies and source_reads.
 #![tactic(auto)]
 
-ghost use Rattle.std.specs.Prelude.{◌≡◌, false, cond, ◌&&◌, ℕ, ◌+◌, ◌-◌, ◌<◌, ◌≤◌, min, length};
+ghost use Rattle.std.specs.Prelude.{◌≡◌, false, cond, ◌+◌, ◌-◌, ◌<◌, ◌≤◌, min, length, replicate, option_map};
 ghost use Rattle.lists.specs.Output.{put};
-ghost use Rattle.methylation.specs.Arrays.{evidence_arrays, PutsEvidence};
+ghost use Rattle.methylation.specs.Arrays.{evidence_arrays, HasPlaces, PutsEvidence};
 ghost use Rattle.methylation.specs.Choices.{pattern_of, wrong_pattern};
 ghost use Rattle.methylation.specs.Outputs.{evidence_out, SameEvidence};
 ghost use Rattle.replies.specs.Choices.{yes};
 ghost use Rattle.source_reads.specs.Reads.{read_leaves, any_leaves};
-ghost use Rattle.simplex_methylation.specs.Simplex.{setting, setting_in, is_letter, base_is, looked, marks_of, added, Below, AddedAs, AnnotatedAs, EvidencedAs, evidence};
+ghost use Rattle.simplex_methylation.specs.Simplex.{setting, setting_in, is_letter, shows, shows_aligned, marks_of, added, Countable, AddedAs, AnnotatedAs, EvidencedAs, evidence};
 
 use dna::to_ascii_uppercase;
-use lists::get_or;
+use lists::{get_or, part};
 use methylation::{ConversionPattern, EvidenceOutputs, PatternBases, evidence_too_short};
 use refusals::{MAX_POSITIONS, MAX_READS, Refusal, refuse};
 use replies::Count;
 use source_reads::{SourceRead, list_leaves};
 
-// What all reads have in common: the pattern, the bytes of their bases, the reference bases by position, and the bytes of their
-// alignment marks, or none where every position is counted.
+// What all reads have in common: the pattern, how many positions the consensus has, the bytes of their bases, the reference bases by
+// position, and the bytes of their alignment marks, or none where every position is counted.
 #[derive(Clone, Copy)]
 struct Common<'a> {
     pattern: ConversionPattern,
+    consensus_len: usize,
     bytes: &'a [u8],
     reference: &'a [u8],
     aligned: Option<&'a [u8]>,
@@ -37,14 +38,25 @@ fn is_letter(letter: u8, base: u8) -> bool
 }
 
 // Marks the positions whose reference base is the letter. Past the reference's end there is none.
+#[tactic(auto, using(crate::proofs::Counts::flag_byte, lists::proofs::Output::begin, lists::proofs::Table::length_tabulate, lists::proofs::Told::next_table), unfolding(crate::specs::Simplex::marks_of, crate::specs::Simplex::informative))]
 fn mark_informative(letter: u8, reference: &[u8], consensus_len: usize, marks_out: &mut [u8])
     requires { consensus_len ≤ length marks_out.old }
     ensures { marks_out.new ≡ put (marks_of letter reference.now consensus_len) marks_out.old }
 {
-    // By index: the reference may end before the position.
+    // By index: the reference may end before the position. The count stands beside whole outputs: that they stay as they were past it is
+    // promised too.
     for i in 0..consensus_len {
         marks_out[i] = u8::from(is_letter(letter, get_or(reference, i, 0)));
     }
+}
+
+// No read is counted at the first n positions.
+#[tactic(auto, using(crate::proofs::Counts::filled))]
+fn clear(n: usize, counts_out: &mut [u32])
+    requires { n ≤ length counts_out.old }
+    ensures { counts_out.new ≡ put (replicate n 0) counts_out.old }
+{
+    counts_out[..n].fill(0);
 }
 
 // One more where a read counts. Of at most 1,024 reads no count comes near the limit at which the Rust's stays.
@@ -56,57 +68,49 @@ fn count_one(so_far: u32, met: bool) -> u32
     so_far + u32::from(met)
 }
 
-// Counts the first `places` bases from the offset on.
-// Not one function with `add_aligned`: of a test that is passed in, both contracts could only say what it answers at each place.
-#[tactic(auto, using(crate::proofs::Counts::few, crate::proofs::Counts::further, crate::proofs::Counts::all_added), unfolding(crate::specs::Simplex::base_is))]
-fn add_everywhere(
-    bytes: &[u8],
-    offset: usize,
-    places: usize,
-    letters: PatternBases,
-    unconverted_out: &mut [u32],
-    converted_out: &mut [u32],
-)
-    requires places_in_bounds { offset + places ≤ length bytes.now }
-    requires places_in_bounds_2 { (places ≤ length unconverted_out.old) × Below 1024 places unconverted_out.old }
-    requires places_in_bounds_3 { (places ≤ length converted_out.old) × Below 1024 places converted_out.old }
-    ensures unconverted_out_after { unconverted_out.new ≡ put (added places (base_is letters.unconverted bytes.now offset) unconverted_out.old) unconverted_out.old }
-    ensures converted_out_after { converted_out.new ≡ put (added places (base_is letters.converted bytes.now offset) converted_out.old) converted_out.old }
+// Counts a read's bases, each at its position.
+// Not one function with `add_aligned`: of a test that is passed in, the counts so far, which few reads keep small, would have to be
+// told apart from what the test answers.
+#[tactic(auto, using(crate::proofs::Counts::few, crate::proofs::Counts::further, crate::proofs::Counts::all_added))]
+fn add_everywhere(bases: &[u8], letters: PatternBases, out: &mut EvidenceOutputs<'_>)
+    requires unconverted { Countable (length bases.now) out.old.unconverted.now }
+    requires converted { Countable (length bases.now) out.old.converted.now }
+    ensures same_references { SameEvidence out.old out.new }
+    ensures marks { out.new.marks.now ≡ out.old.marks.now }
+    ensures unconverted { out.new.unconverted.now ≡ put (added (length bases.now) (shows letters.unconverted bases.now) out.old.unconverted.now) out.old.unconverted.now }
+    ensures converted { out.new.converted.now ≡ put (added (length bases.now) (shows letters.converted bases.now) out.old.converted.now) out.old.converted.now }
 {
-    // By index: the bases stand behind an offset, and both counts are read and written at the same place.
-    for i in 0..places {
-        let base = bytes[offset + i];
+    let unconverted_out = &mut *out.unconverted;
+    let converted_out = &mut *out.converted;
+    for (i, &base) in bases.iter().enumerate() {
         unconverted_out[i] = count_one(unconverted_out[i], is_letter(letters.unconverted, base));
         converted_out[i] = count_one(converted_out[i], is_letter(letters.converted, base));
     }
 }
 
-// Counts those of the first `places` bases from the offset on that are aligned, at informative positions.
-#[tactic(auto, using(crate::proofs::Counts::few, crate::proofs::Counts::further, crate::proofs::Counts::all_added), unfolding(crate::specs::Simplex::looked, crate::specs::Simplex::informative, crate::specs::Simplex::is_aligned, crate::specs::Simplex::base_is))]
+// Counts those of a read's bases that are aligned, at informative positions.
+#[tactic(auto, using(crate::proofs::Counts::few, crate::proofs::Counts::further, crate::proofs::Counts::all_added), unfolding(crate::specs::Simplex::informative))]
 fn add_aligned(
-    bytes: &[u8],
+    bases: &[u8],
     reference: &[u8],
     aligned: &[u8],
-    offset: usize,
-    places: usize,
     letters: PatternBases,
-    unconverted_out: &mut [u32],
-    converted_out: &mut [u32],
+    out: &mut EvidenceOutputs<'_>,
 )
-    requires places_in_bounds { offset + places ≤ length bytes.now }
-    requires places_in_bounds_2 { places ≤ length reference.now }
-    requires by_index { (i : ℕ) → i < places → offset + i < length aligned.now }
-    requires places_in_bounds_3 { (places ≤ length unconverted_out.old) × Below 1024 places unconverted_out.old }
-    requires places_in_bounds_4 { (places ≤ length converted_out.old) × Below 1024 places converted_out.old }
-    ensures unconverted_out_after { unconverted_out.new ≡ put (added places (λ i. looked letters.reference reference.now aligned.now offset i && base_is letters.unconverted bytes.now offset i) unconverted_out.old) unconverted_out.old }
-    ensures converted_out_after { converted_out.new ≡ put (added places (λ i. looked letters.reference reference.now aligned.now offset i && base_is letters.converted bytes.now offset i) converted_out.old) converted_out.old }
+    requires reference { length bases.now ≤ length reference.now }
+    requires aligned { length bases.now ≤ length aligned.now }
+    requires unconverted { Countable (length bases.now) out.old.unconverted.now }
+    requires converted { Countable (length bases.now) out.old.converted.now }
+    ensures same_references { SameEvidence out.old out.new }
+    ensures marks { out.new.marks.now ≡ out.old.marks.now }
+    ensures unconverted { out.new.unconverted.now ≡ put (added (length bases.now) (shows_aligned letters.reference letters.unconverted reference.now aligned.now bases.now) out.old.unconverted.now) out.old.unconverted.now }
+    ensures converted { out.new.converted.now ≡ put (added (length bases.now) (shows_aligned letters.reference letters.converted reference.now aligned.now bases.now) out.old.converted.now) out.old.converted.now }
 {
-    // By index, as there.
-    for i in 0..places {
-        let at = offset + i;
-        let base = bytes[at];
+    let unconverted_out = &mut *out.unconverted;
+    let converted_out = &mut *out.converted;
+    for (i, &base) in bases.iter().enumerate() {
         let informative = is_letter(letters.reference, reference[i]);
-        let counts = informative & (aligned[at] != 0);
+        let counts = informative & (aligned[i] != 0);
         let unconverted = counts & is_letter(letters.unconverted, base);
         let converted = counts & is_letter(letters.converted, base);
         unconverted_out[i] = count_one(unconverted_out[i], unconverted);
@@ -123,84 +127,74 @@ fn marked_places(places: usize, reference: usize, offset: usize, aligned: usize)
 }
 
 // Adds one read to the counts of the positions that it reaches.
-fn add_read(
-    common: Common<'_>,
-    read: SourceRead,
-    consensus_len: usize,
-    unconverted_out: &mut [u32],
-    converted_out: &mut [u32],
-)
-    requires { (read_leaves (length common.bytes.now) read ≡ false)
-        × ((consensus_len ≤ length unconverted_out.old) × Below 1024 consensus_len unconverted_out.old)
-        × ((consensus_len ≤ length converted_out.old) × Below 1024 consensus_len converted_out.old) }
-    ensures { AddedAs (setting_in common.entry) read consensus_len unconverted_out.old converted_out.old unconverted_out.new converted_out.new }
+#[tactic(auto, using(crate::proofs::OneRead::within))]
+fn add_read(common: Common<'_>, read: SourceRead, out: &mut EvidenceOutputs<'_>)
+    requires inside { read_leaves (length common.bytes.now) read ≡ false }
+    requires unconverted { Countable common.consensus_len out.old.unconverted.now }
+    requires converted { Countable common.consensus_len out.old.converted.now }
+    ensures same_references { SameEvidence out.old out.new }
+    ensures marks { out.new.marks.now ≡ out.old.marks.now }
+    ensures added { AddedAs (setting_in common.entry) read common.entry.consensus_len
+        out.old.unconverted.now out.old.converted.now
+        out.new.unconverted.now out.new.converted.now }
 {
     let letters = common.pattern.bases();
     let offset = read.offset;
-    let reached = consensus_len.min(read.length);
+    let reached = common.consensus_len.min(read.length);
     let Some(aligned) = common.aligned else {
-        add_everywhere(
-            common.bytes,
-            offset,
-            reached,
-            letters,
-            unconverted_out,
-            converted_out,
-        );
+        add_everywhere(part(common.bytes, offset, reached), letters, out);
         return;
     };
     let places = marked_places(reached, common.reference.len(), offset, aligned.len());
     add_aligned(
-        common.bytes,
+        part(common.bytes, offset, places),
         common.reference,
-        aligned,
-        offset,
-        places,
+        part(aligned, offset, places),
         letters,
-        unconverted_out,
-        converted_out,
+        out,
     );
 }
 
-// The marks and counts of so many positions, where there is room and no read leaves its bytes. At most 1,024 reads.
-fn write_evidence(
-    common: Common<'_>,
-    reads: &[SourceRead],
-    consensus_len: usize,
-    out: &mut EvidenceOutputs<'_>,
-)
+// The marks and counts of the consensus, where there is room and no read leaves its bytes. At most 1,024 reads.
+fn write_evidence(common: Common<'_>, reads: &[SourceRead], out: &mut EvidenceOutputs<'_>)
     requires few { length reads.now ≤ 1024 }
     requires inside { any_leaves (length common.bytes.now) reads.now ≡ false }
-    requires room { (consensus_len ≤ length out.old.marks.now) × (consensus_len ≤ length out.old.unconverted.now) × (consensus_len ≤ length out.old.converted.now) }
+    requires room { HasPlaces common.consensus_len (evidence_out out.old) }
     ensures same_references { SameEvidence out.old out.new }
-    ensures puts { PutsEvidence (evidence (setting_in common.entry) reads.now consensus_len) (evidence_out out.old) (evidence_out out.new) }
+    ensures puts { PutsEvidence (evidence (setting_in common.entry) reads.now common.entry.consensus_len) (evidence_out out.old) (evidence_out out.new) }
 {
     let letters = common.pattern.bases();
-    mark_informative(
-        letters.reference,
-        common.reference,
-        consensus_len,
-        out.marks,
-    );
-    let unconverted_out = &mut *out.unconverted;
-    let converted_out = &mut *out.converted;
-    unconverted_out[..consensus_len].fill(0);
-    converted_out[..consensus_len].fill(0);
+    let n = common.consensus_len;
+    mark_informative(letters.reference, common.reference, n, out.marks);
+    clear(n, out.unconverted);
+    clear(n, out.converted);
     for &read in reads {
-        add_read(common, read, consensus_len, unconverted_out, converted_out);
+        add_read(common, read, out);
     }
 }
 
-// The same as a call of the library: refuses by 7, 9, 10, 12, and answers how many positions are written.
+// The same as a call of the library, of a pattern's number. Refuses by 13, 7, 9, 10, 12, and answers how many are written.
 fn annotate_simplex_methylation(
-    common: Common<'_>,
+    pattern: u8,
+    bytes: &[u8],
+    reference: &[u8],
+    aligned: Option<&[u8]>,
     reads: &[SourceRead],
     consensus_len: usize,
     out: &mut EvidenceOutputs<'_>,
 ) -> Result<usize, Refusal>
     ensures same_references { SameEvidence out.old out.new }
-    ensures evidenced { EvidencedAs false (setting_in common.entry) reads.now consensus_len (evidence_out out.old) (evidence_out out.new) result }
+    ensures evidenced { EvidencedAs (wrong_pattern pattern)
+        (record { pattern = pattern_of pattern; bytes = bytes.now; reference = reference.now; aligned = option_map (λ marks. marks.now) aligned.entry })
+        reads.now consensus_len (evidence_out out.old) (evidence_out out.new) result }
 {
+    let common = Common {
+        pattern: ConversionPattern::try_from(pattern)?,
+        consensus_len,
+        bytes,
+        reference,
+        aligned,
+    };
     let leaving = list_leaves(reads, common.bytes.len());
     refuse(MAX_POSITIONS < consensus_len, Refusal::TooLong)?;
     refuse(MAX_READS < reads.len(), Refusal::TooManyReads)?;
@@ -209,7 +203,7 @@ fn annotate_simplex_methylation(
         evidence_too_short(consensus_len, out.lengths()),
         Refusal::OutputTooShort,
     )?;
-    write_evidence(common, reads, consensus_len, out);
+    write_evidence(common, reads, out);
     Ok(consensus_len)
 }
 
@@ -237,25 +231,20 @@ pub extern "C" fn gedrashiw_annotate_simplex_methylation(
         (evidence_arrays marks_out.new unconverted_out.new converted_out.new)
         result }
 {
-    match ConversionPattern::try_from(pattern) {
-        Ok(pattern) => {
-            let common = Common {
-                pattern,
-                bytes,
-                reference,
-                aligned: if count_all_positions == 0 {
-                    Some(aligned)
-                } else {
-                    None
-                },
-            };
-            let mut out = EvidenceOutputs {
-                marks: marks_out,
-                unconverted: unconverted_out,
-                converted: converted_out,
-            };
-            Count::from(annotate_simplex_methylation(common, reads, consensus_len, &mut out))
-        }
-        Err(refusal) => Count::from(Err(refusal)),
-    }
+    let mut out = EvidenceOutputs {
+        marks: marks_out,
+        unconverted: unconverted_out,
+        converted: converted_out,
+    };
+    let aligned = (count_all_positions == 0).then_some(aligned);
+    let answer = annotate_simplex_methylation(
+        pattern,
+        bytes,
+        reference,
+        aligned,
+        reads,
+        consensus_len,
+        &mut out,
+    );
+    Count::from(answer)
 }

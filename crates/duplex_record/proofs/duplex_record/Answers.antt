@@ -9,7 +9,7 @@ use Rattle.duplex_kind.specs.declared.DuplexConsensus.{DuplexConsensus}
 use Rattle.duplex_kind.specs.declared.DuplexConsensus.TheVariants.{Ab, Ba, Both}
 use Rattle.duplex_record.specs.Parts.{made_of}
 use Rattle.duplex_record.proofs.Record.{kind_told, lent_single, lent_combined, turned_down, none, alone_ab, alone_ba, both}
-use Rattle.duplex_record.proofs.Unannotated.{unannotated}
+use Rattle.duplex_record.proofs.Unannotated.{none_held, unannotated}
 use Rattle.duplex_record.proofs.Untouched.{same}
 use Rattle.duplex_record.proofs.duplex_record.Goals as goal
 
@@ -63,5 +63,5 @@ returns-else-is_some-clause-made c =
     let answer : c.record_kind.result ≡ Ok (Some (Both c.in-Both.field-0)) = c.in_ok-kind.was ∙ ap Ok (c.in-Some.is ∙ ap (λ (k : DuplexConsensus). Some k) c.in-Both.is) in
     let kind = kind_told a b (is_some c.args.list) (count_in c.args.list) (leaving_in c.args.list) c.given_strand.ensures c.given_strand-2.ensures c.record_kind.ensures answer in
     let told : c.map-in-Both.result ≡ made_of Both c.combine_strands.result = grind arith in
-    let none = rw (c.is_some.ensures, c.is_some-in-Both.ensures) at c.if-is_some.false in
+    let none = none_held c.lent-a.result.methylation c.lent-b.result.methylation (rw (c.is_some.ensures, c.is_some-in-Both.ensures) at c.if-is_some.false) in
     both a b _ _ _ _ _ told kind (lent_combined c.lent-a.result c.lent-b.result c.lent-a.ensures c.lent-b.ensures (unannotated _ _ _ _ _ none (rw c.is_some-in-Both-2.ensures at c.combine_strands.ensures.combined) (record { a = same; b = same })))

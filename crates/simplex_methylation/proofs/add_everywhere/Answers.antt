@@ -3,6 +3,4 @@ use Rattle.simplex_methylation.proofs.Counts.{start}
 use Rattle.simplex_methylation.proofs.add_everywhere.Goals as goal
 
 pub loop-i-init : goal.loop-i-init
-loop-i-init c =
-    let pre = c.requires in
-    (start _ pre.places_in_bounds_2, start _ pre.places_in_bounds_3)
+loop-i-init c = (start c.requires.unconverted, start c.requires.converted)

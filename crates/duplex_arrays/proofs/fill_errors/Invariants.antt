@@ -1,0 +1,12 @@
+-- What the loop keeps, whatever is told of the closure's answers.
+use Prim.Native.Nat.{ℕ}
+use Rattle.lists.specs.Table.{tabulate}
+use Rattle.lists.proofs.Output.{Filling}
+use Rattle.duplex_arrays.specs.Positions.{Tells}
+use Rattle.duplex_arrays.proofs.fill_errors.Given as goal
+
+abbrev pub invariant-loop-i : goal.invariant-loop-i
+invariant-loop-i g l =
+    (told : ℕ → ℕ)
+    → Tells l.n (goal.F-post g l.at) told
+    → Filling l.n (tabulate l.n told) l.initial.errors_out l.i l.errors_out
