@@ -8,9 +8,9 @@
 --     entry_written, entry_told  the same with the answer as a number
 -- Assumes nothing.
 use mathlib.Core.Path.{◌≡◌, refl, sym, ap, subst, ◌∙◌}
-use mathlib.Core.Bool.{Bool, true, false, cond}
+use mathlib.Core.Bool.{Bool, true, false, cond, ◌||◌}
 use mathlib.Core.List.{List}
-use Prim.Native.Nat.{ℕ, ◌/◌, ◌≤◌}
+use Prim.Native.Nat.{ℕ, ◌≤◌}
 use native.Mathlib.Omega.{arith}
 use borrow.Author.Tests.{ltb-false, eqb-false}
 use lib.Dec.{ltb}
@@ -19,20 +19,19 @@ use Rattle.std.proofs.Common.{Option, Some, None, Result, Ok, Err}
 use Rattle.std.specs.Bool.{then_some}
 use Rattle.lists.specs.Output.{put}
 use Rattle.lists.specs.Part.{only_if}
-use Rattle.byte_numbers.specs.Bytes.{bytes32}
+use Rattle.byte_numbers.specs.Bytes.{odd_count, bytes32}
 use Rattle.byte_numbers.proofs.Bytes.{length_numbers}
 use Rattle.refusals.specs.declared.Refusal.{Refusal}
 use Rattle.refusals.specs.declared.Refusal.TheVariants.{Broken, TooLong, Ragged, OutputTooShort}
 use Rattle.refusals.specs.Refusal.{refused, number_of, number_or_0}
 use Rattle.refusals.specs.Outcome.{answer, refused_if}
 use Rattle.refusals.proofs.InOrder.{numbered_from_1}
-use Rattle.duplex_metrics.specs.Metrics.{Input, input, input_of, lengths, lengths_in, metrics_refused, metrics_faults, metrics_of, record_of}
-use Rattle.duplex_metrics.specs.declared.CountsLengths.{CountsLengths}
+use Rattle.duplex_metrics.specs.Metrics.{Input, input, input_of, lengths, lengths_in, second_lengths, metrics_refused, metrics_faults, metrics_of, record_of}
 use Rattle.duplex_metrics.specs.declared.MetricsLengths.{MetricsLengths}
 use Rattle.duplex_metrics.proofs.Few.{few}
 use Rattle.metrics_bits.specs.Bits.{metrics_words}
 use Rattle.metrics_bits.specs.declared.MetricsBits.{MetricsBits}
-use Rattle.c_metrics.specs.Bytes.{Narrow, MetricsAs, MetricsEntry, seen, byte_counts, halves, second_halves, decoded, odd_bytes, odd_counts, entry_refused, record_words}
+use Rattle.c_metrics.specs.Bytes.{Narrow, MetricsAs, MetricsEntry, seen, halved_lengths, decoded, odd_bytes, odd_counts, entry_refused, record_words}
 use Rattle.duplex_metrics.specs.declared.Counts.{Counts}
 
 abbrev or_else : Option Refusal → Option Refusal → Option Refusal
@@ -63,28 +62,42 @@ entry_at x before o m s e f g =
     ∙ ap (λ (r : Option Refusal). cond o (Some Broken) (or_else r (short_row (ltb (length before) 40)))) f
     ∙ ap (λ (b : Bool). cond o (Some Broken) (or_else m (short_row b))) g
 
+-- The code tests the second strand, which may be absent, last.
+strand_last : (p q r s t : Bool) → ((p || q) || t) || (r || s) ≡ p || (q || (r || (s || t)))
+strand_last true q r s t = refl
+strand_last false true r s t = refl
+strand_last false false true s true = refl
+strand_last false false true s false = refl
+strand_last false false false true true = refl
+strand_last false false false true false = refl
+strand_last false false false false true = refl
+strand_last false false false false false = refl
+
 module _ (a : Counts ℕ) (bases errors : List ℕ) where
-  abbrev lengths_by : Option (Counts ℕ) → MetricsLengths
-  lengths_by b = record { a = halves (lengths_in a); b = second_halves b; bases = length bases; errors = length errors / 2 }
+  abbrev byte_counts : Option (Counts ℕ) → MetricsLengths
+  byte_counts b = record { a = lengths_in a; b = second_lengths b; bases = length bases; errors = length errors }
 
   lengths_given :
       (b : Option (Counts ℕ))
-      → lengths_by b ≡ lengths (decoded (input_of a b bases errors))
+      → halved_lengths (byte_counts b) ≡ lengths (decoded (input_of a b bases errors))
   lengths_given None = simp length_numbers
   lengths_given (Some b) = simp length_numbers
 
   pub told_given :
-      (b : Option (Counts ℕ)) {n : CountsLengths} {m : Option CountsLengths} {told : Result (Unit {0}) Refusal}
-      → n ≡ halves (lengths_in a)
-      → m ≡ second_halves b
-      → told ≡ answer (refused (metrics_faults (record { a = n; b = m; bases = length bases; errors = length errors / 2 }))) tt
+      (b : Option (Counts ℕ)) {n m : MetricsLengths} {told : Result (Unit {0}) Refusal}
+      → n ≡ byte_counts b
+      → m ≡ halved_lengths n
+      → told ≡ answer (refused (metrics_faults m)) tt
       → told ≡ answer (metrics_refused (decoded (input_of a b bases errors))) tt
   told_given b n m e =
-      e ∙ rw (n, m) (ap (λ (l : MetricsLengths). answer (refused (metrics_faults l)) tt) (lengths_given b))
+      e ∙ rw (m, n) (ap (λ (l : MetricsLengths). answer (refused (metrics_faults l)) tt) (lengths_given b))
 
-  pub odd_given : (b : Option (Counts ℕ)) → odd_bytes (lengths_in a) (byte_counts b) (length errors) ≡ odd_counts (input_of a b bases errors)
-  odd_given None = refl
-  odd_given (Some b) = refl
+  pub odd_given : (b : Option (Counts ℕ)) {n : MetricsLengths} {odd : Bool} → n ≡ byte_counts b → odd ≡ odd_bytes n → odd ≡ odd_counts (input_of a b bases errors)
+  odd_given None n e =
+      e ∙ rw n (strand_last (odd_count (length a.depths.now)) (odd_count (length a.errors.now)) false false (odd_count (length errors)))
+  odd_given (Some b) n e =
+      e
+      ∙ rw n (strand_last (odd_count (length a.depths.now)) (odd_count (length a.errors.now)) (odd_count (length b.depths.now)) (odd_count (length b.errors.now)) (odd_count (length errors)))
 
   pub narrow : (b : Option (Counts ℕ)) → metrics_refused (decoded (input_of a b bases errors)) ≡ None → Narrow (input_of a b bases errors)
   narrow b z = go b z

@@ -1,13 +1,14 @@
 -- The metrics of a record from bytes to bytes, document 01's form for the viewer: the library's call `duplex_metrics` on the numbers
 -- that the bytes stand for.
-use Rattle.std.specs.Prelude.{ℕ, ◌/◌, ◌≤◌, ◌≡◌, Bool, Option, Some, None, Result, Ok, Err, List, [], ◌∷◌, ◌++◌, length}
+use Rattle.std.specs.Prelude.{ℕ, ◌/◌, ◌≤◌, ◌≡◌, Bool, ◌||◌, Option, Some, None, Result, Ok, Err, List, [], ◌∷◌, ◌++◌, length, take}
+use Rattle.lists.specs.Output.{put}
 use Rattle.lists.specs.Part.{only_if}
 use Rattle.byte_numbers.specs.Bytes.{words16, odd_count, bytes32}
 use Rattle.refusals.specs.declared.Refusal.{Refusal}
 use Rattle.refusals.specs.declared.Refusal.TheVariants.{Broken, OutputTooShort}
 use Rattle.refusals.specs.Refusal.{Fault, ◌if◌, any, too_short, refused, number_or_0}
 use Rattle.refusals.specs.Outcome.{answer, after}
-use Rattle.duplex_metrics.specs.Metrics.{Input, input, counts_lengths, lengths, lengths_in, metrics_faults, metrics_of}
+use Rattle.duplex_metrics.specs.Metrics.{Input, input, lengths, of_second, metrics_faults, metrics_of}
 use Rattle.duplex_metrics.specs.declared.Counts.{Counts}
 use Rattle.duplex_metrics.specs.declared.CountsLengths.{CountsLengths}
 use Rattle.duplex_metrics.specs.declared.MetricsLengths.{MetricsLengths}
@@ -23,11 +24,8 @@ abbrev pub decoded : Input → Input
 decoded x = input (words16 x.a) (words16 x.a_errors) x.second (words16 x.b) (words16 x.b_errors) x.bases (words16 x.errors)
 
 -- Refusal 13: a byte count does not fit the width. A base is one byte, so theirs fits.
-abbrev pub odd_bytes : CountsLengths → CountsLengths → ℕ → Bool
-odd_bytes a b errors = any odd_count (a.depths ∷ a.errors ∷ b.depths ∷ b.errors ∷ errors ∷ [])
-
 abbrev pub odd_counts : Input → Bool
-odd_counts x = odd_bytes (counts_lengths x.a x.a_errors) (counts_lengths x.b x.b_errors) (length x.errors)
+odd_counts x = any odd_count (length x.a ∷ length x.a_errors ∷ length x.b ∷ length x.b_errors ∷ length x.errors ∷ [])
 
 -- Refusal 13, then what refuses the library's call, then row 12 for 40 bytes of output.
 abbrev pub entry_faults : Bool → MetricsLengths → ℕ → List Fault
@@ -70,19 +68,51 @@ pub record MetricsEntry (x : Input) (before after_call : List ℕ) (r : ℕ) : T
   pub answered : r ≡ number_or_0 (entry_refused x before)
   pub left : after_call ≡ metrics_left x before
 
--- For the code, which has a strand's two arrays as one value.
+-- For the code, which has byte counts as one value.
 
-abbrev pub byte_counts : Option (Counts ℕ) → CountsLengths
-byte_counts None = record { depths = 0; errors = 0 }
-byte_counts (Some s) = lengths_in s
+-- Refusal 13's condition for a strand, and for all that a call is given.
+abbrev pub odd_strand : CountsLengths → Bool
+odd_strand n = odd_count n.depths || odd_count n.errors
+
+abbrev pub odd_bytes : MetricsLengths → Bool
+odd_bytes n = (odd_strand n.a || odd_count n.errors) || of_second odd_strand n.b
 
 -- How many numbers so many bytes are.
 abbrev pub halves : CountsLengths → CountsLengths
 halves n = record { depths = n.depths / 2; errors = n.errors / 2 }
 
-abbrev pub second_halves : Option (Counts ℕ) → Option CountsLengths
+abbrev pub second_halves : Option CountsLengths → Option CountsLengths
 second_halves None = None
-second_halves (Some s) = Some (halves (lengths_in s))
+second_halves (Some n) = Some (halves n)
+
+abbrev pub halved_lengths : MetricsLengths → MetricsLengths
+halved_lengths n = record { a = halves n.a; b = second_halves n.b; bases = n.bases; errors = n.errors / 2 }
+
+-- A strand's arrays, and those of one that may be absent.
+pub record Arrays : Type 0 where
+  pub depths : List ℕ
+  pub errors : List ℕ
+
+abbrev pub arrays_in : Counts ℕ → Arrays
+arrays_in s = record { depths = s.depths.now; errors = s.errors.now }
+
+abbrev pub second_in : Option (Counts ℕ) → Option Arrays
+second_in None = None
+second_in (Some s) = Some (arrays_in s)
+
+-- What reading the numbers of a strand leaves in two lent arrays, where there is one.
+abbrev pub CountsRead : Option (Counts ℕ) → List ℕ → List ℕ → List ℕ → List ℕ → Type 0
+CountsRead None depths errors depths_now errors_now = Unit {0}
+CountsRead (Some s) depths errors depths_now errors_now =
+    (depths_now ≡ put (take (length depths) (words16 s.depths.now)) depths) × (errors_now ≡ put (take (length errors) (words16 s.errors.now)) errors)
+
+-- As many numbers at the front of two arrays as a strand's bytes are.
+abbrev pub counts_read : Counts ℕ → List ℕ → List ℕ → Arrays
+counts_read s depths errors = record { depths = take (length s.depths.now / 2) depths; errors = take (length s.errors.now / 2) errors }
+
+abbrev pub second_read : Option (Counts ℕ) → List ℕ → List ℕ → Option Arrays
+second_read None depths errors = None
+second_read (Some s) depths errors = Some (counts_read s depths errors)
 
 -- Bytes of at most 1,024 numbers an array.
 pub record Narrow (x : Input) : Type 0 where

@@ -6,17 +6,19 @@
 ghost use Rattle.std.specs.Prelude.{◌≡◌, ◌≤◌, length};
 ghost use Rattle.lists.specs.Output.{put};
 ghost use Rattle.byte_numbers.specs.Bytes.{odd_count, bytes32};
-ghost use Rattle.duplex_metrics.specs.Metrics.{input_of, metrics_of};
+ghost use Rattle.duplex_metrics.specs.Metrics.{input_given, metrics_of};
 ghost use Rattle.metrics_bits.specs.Bits.{metrics_words};
-ghost use Rattle.c_metrics.specs.Bytes.{Narrow, MetricsAs, byte_counts, halves, second_halves, decoded, odd_bytes, record_words};
+ghost use Rattle.c_metrics.specs.Bytes.{Narrow, MetricsAs, CountsRead, arrays_in, second_in, counts_read, second_read, halves, halved_lengths, decoded, odd_strand, odd_bytes, record_words};
 
-use duplex_metrics::{Counts, CountsLengths, MetricsLengths, metrics_refusal};
+use duplex_metrics::{Counts, CountsLengths, MetricsInput, MetricsLengths, metrics_refusal};
+use lists::front;
 use metrics_bits::{MetricsBits, metrics_bits};
 use refusals::{Refusal, refuse};
 
 // The bytes of a metrics record: ten numbers of four bytes.
 pub const METRICS_BYTES: usize = 40;
 
+#[tactic(auto, using(byte_numbers::proofs::Groups::all_fit), unfolding(crate::specs::Bytes::record_words))]
 fn write_record(r: MetricsBits, out: &mut [u8])
     requires { 40 ≤ length out.old }
     ensures { out.new ≡ put (bytes32 (record_words r)) out.old }
@@ -25,15 +27,41 @@ fn write_record(r: MetricsBits, out: &mut [u8])
     byte_numbers::write(&words, out);
 }
 
+// Reads the numbers of a strand that may be absent, as many of each array as there is room for.
+fn read_counts(s: Option<Counts<u8>>, depths_out: &mut [u16], errors_out: &mut [u16])
+    ensures { CountsRead s.entry depths_out.old errors_out.old depths_out.new errors_out.new }
+{
+    if let Some(s) = s {
+        byte_numbers::read(s.depths, depths_out);
+        byte_numbers::read(s.errors, errors_out);
+    }
+}
+
+// The numbers of a strand that were read to the front of these arrays.
+fn counts_read<'a>(s: Counts<u8>, depths: &'a [u16], errors: &'a [u16]) -> Counts<'a, u16>
+    ensures { arrays_in result ≡ counts_read s.entry depths.now errors.now }
+{
+    Counts {
+        depths: front(depths, s.depths.len() / 2),
+        errors: front(errors, s.errors.len() / 2),
+    }
+}
+
+// The same of a strand that may be absent.
+fn second_read<'a>(
+    s: Option<Counts<u8>>,
+    depths: &'a [u16],
+    errors: &'a [u16],
+) -> Option<Counts<'a, u16>>
+    ensures { second_in result ≡ second_read s.entry depths.now errors.now }
+{
+    s.map(|s| counts_read(s, depths, errors))
+}
+
 // The library's call on the decoded numbers.
-fn decoded_metrics(
-    a: Counts<u8>,
-    b: Option<Counts<u8>>,
-    bases: &[u8],
-    errors: &[u8],
-) -> Result<MetricsBits, Refusal>
-    requires { Narrow (input_of a b bases.now errors.now) }
-    ensures { result ≡ metrics_words (metrics_of (decoded (input_of a.entry b.entry bases.now errors.now))) }
+fn decoded_metrics(x: MetricsInput<u8, u8>) -> Result<MetricsBits, Refusal>
+    requires { Narrow (input_given x) }
+    ensures { result ≡ metrics_words (metrics_of (decoded (input_given x.entry))) }
 {
     // No heap: arrays of the most that is looked at.
     let mut a_depths = [0; 1024];
@@ -41,27 +69,13 @@ fn decoded_metrics(
     let mut b_depths = [0; 1024];
     let mut b_errors = [0; 1024];
     let mut own = [0; 1024];
-    byte_numbers::read(a.depths, &mut a_depths);
-    byte_numbers::read(a.errors, &mut a_errors);
-    byte_numbers::read(errors, &mut own);
-    let first = Counts {
-        depths: &a_depths[0..a.depths.len() / 2],
-        errors: &a_errors[0..a.errors.len() / 2],
-    };
-    let own = &own[0..errors.len() / 2];
-    // No `map`: its closure would hand out slices of the arrays that it fills.
-    match b {
-        Some(b) => {
-            byte_numbers::read(b.depths, &mut b_depths);
-            byte_numbers::read(b.errors, &mut b_errors);
-            let second = Counts {
-                depths: &b_depths[0..b.depths.len() / 2],
-                errors: &b_errors[0..b.errors.len() / 2],
-            };
-            metrics_bits(first, Some(second), bases, own)
-        }
-        None => metrics_bits(first, None, bases, own),
-    }
+    read_counts(Some(x.a), &mut a_depths, &mut a_errors);
+    read_counts(x.b, &mut b_depths, &mut b_errors);
+    byte_numbers::read(x.errors, &mut own);
+    let first = counts_read(x.a, &a_depths, &a_errors);
+    let second = second_read(x.b, &b_depths, &b_errors);
+    let own = front(&own, x.errors.len() / 2);
+    metrics_bits(MetricsInput::new(first, second, x.bases, own))
 }
 
 fn odd(n: usize) -> bool
@@ -70,22 +84,18 @@ fn odd(n: usize) -> bool
     n % 2 != 0
 }
 
-// How many bytes a strand's arrays are; none of an absent strand.
-fn byte_counts(s: Option<Counts<u8>>) -> CountsLengths
-    ensures { result ≡ byte_counts s.entry }
+// Whether a byte count of a strand's is odd.
+fn is_odd(n: CountsLengths) -> bool
+    ensures { result ≡ odd_strand n }
 {
-    let none = CountsLengths {
-        depths: 0,
-        errors: 0,
-    };
-    s.map_or(none, |s| s.lengths())
+    odd(n.depths) | odd(n.errors)
 }
 
-// Row 13's condition, for byte counts.
-fn odd_bytes(a: CountsLengths, b: CountsLengths, errors: usize) -> bool
-    ensures { result ≡ odd_bytes a b errors }
+// Row 13's condition, for byte counts. A base is one byte, so theirs fits.
+fn odd_bytes(n: MetricsLengths) -> bool
+    ensures { result ≡ odd_bytes n }
 {
-    odd(a.depths) | (odd(a.errors) | (odd(b.depths) | (odd(b.errors) | odd(errors))))
+    (is_odd(n.a) | odd(n.errors)) | n.b.is_some_and(|b| is_odd(b))
 }
 
 // How many numbers so many bytes are.
@@ -98,35 +108,28 @@ fn halved(n: CountsLengths) -> CountsLengths
     }
 }
 
-// The same of a strand that may be absent.
-fn second_halved(s: Option<Counts<u8>>) -> Option<CountsLengths>
-    ensures { result ≡ second_halves s.entry }
+// The same of all that a call is given.
+fn halved_lengths(n: MetricsLengths) -> MetricsLengths
+    ensures { result ≡ halved_lengths n }
 {
-    s.map(|s| halved(s.lengths()))
+    MetricsLengths {
+        a: halved(n.a),
+        b: n.b.map(|b| halved(b)),
+        bases: n.bases,
+        errors: n.errors / 2,
+    }
 }
 
 // The metrics of a record, document 01's "Metrics", as 40 bytes: aD, aM, aE, bD, bM, bE, cD, cM, cE, nc. Depths and errors are
 // 16-bit numbers, those written are 32-bit numbers, and a rate is its bits. Refuses by 13, 7, 8, 12.
-pub fn metrics_of_bytes(
-    a: Counts<u8>,
-    b: Option<Counts<u8>>,
-    bases: &[u8],
-    errors: &[u8],
-    out: &mut [u8],
-) -> Result<(), Refusal>
-    ensures { MetricsAs (input_of a.entry b.entry bases.now errors.now) out.old out.new result }
+pub fn metrics_of_bytes(x: MetricsInput<u8, u8>, out: &mut [u8]) -> Result<(), Refusal>
+    ensures { MetricsAs (input_given x.entry) out.old out.new result }
 {
-    let a_counts = a.lengths();
-    let b_counts = byte_counts(b);
-    refuse(odd_bytes(a_counts, b_counts, errors.len()), Refusal::Broken)?;
-    metrics_refusal(MetricsLengths {
-        a: halved(a_counts),
-        b: second_halved(b),
-        bases: bases.len(),
-        errors: errors.len() / 2,
-    })?;
+    let n = x.lengths();
+    refuse(odd_bytes(n), Refusal::Broken)?;
+    metrics_refusal(halved_lengths(n))?;
     refuse(out.len() < METRICS_BYTES, Refusal::OutputTooShort)?;
-    let record = decoded_metrics(a, b, bases, errors)?;
+    let record = decoded_metrics(x)?;
     write_record(record, out);
     Ok(())
 }

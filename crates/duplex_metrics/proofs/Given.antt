@@ -16,7 +16,6 @@ use Rattle.refusals.specs.Refusal.{refused}
 use Rattle.refusals.specs.Outcome.{answer}
 use Rattle.duplex_metrics.specs.Metrics.{strand_figures, record_figures, record_no_calls, metrics_record, lengths, metrics_faults, metrics_refused, record_of, metrics_of, input, input_of, lengths_in, second_lengths, depths_in, figures_in_counts}
 use Rattle.duplex_metrics.specs.declared.Counts.{Counts}
-use Rattle.duplex_metrics.specs.declared.CountsLengths.{CountsLengths}
 use Rattle.duplex_metrics.specs.declared.MetricsLengths.{MetricsLengths}
 use Rattle.duplex_metrics.specs.declared.MetricsRecord.{MetricsRecord}
 
@@ -34,13 +33,11 @@ module _ (a : Counts ℕ) (bases errors : List ℕ) where
   lengths_given (Some b) = refl
 
   pub told_given :
-      (b : Option (Counts ℕ)) {n : CountsLengths} {m : Option CountsLengths} {told : Result (Unit {0}) Refusal}
-      → n ≡ lengths_in a
-      → m ≡ second_lengths b
-      → told ≡ answer (refused (metrics_faults (record { a = n; b = m; bases = length bases; errors = length errors }))) tt
+      (b : Option (Counts ℕ)) {n : MetricsLengths} {told : Result (Unit {0}) Refusal}
+      → n ≡ lengths_by b
+      → told ≡ answer (refused (metrics_faults n)) tt
       → told ≡ answer (metrics_refused (input_of a b bases errors)) tt
-  told_given b n m e =
-      e ∙ rw (n, m) (ap (λ (l : MetricsLengths). answer (refused (metrics_faults l)) tt) (lengths_given b))
+  told_given b n e = e ∙ ap (λ (l : MetricsLengths). answer (refused (metrics_faults l)) tt) (n ∙ lengths_given b)
 
   pub record_given : (b : Option (Counts ℕ)) → record_by b ≡ record_of (input_of a b bases errors)
   unfolding only_if

@@ -15,6 +15,7 @@ use Rattle.caller.specs.Short.{short}
 use Rattle.duplex_metrics.specs.declared.Counts.{Counts}
 use Rattle.duplex_metrics.specs.declared.CountsLengths.{CountsLengths}
 use Rattle.duplex_metrics.specs.declared.Figures.{Figures}
+use Rattle.duplex_metrics.specs.declared.MetricsInput.{MetricsInput}
 use Rattle.duplex_metrics.specs.declared.MetricsLengths.{MetricsLengths}
 use Rattle.duplex_metrics.specs.declared.MetricsRecord.{MetricsRecord}
 
@@ -138,18 +139,24 @@ metrics_of x = answer (metrics_refused x) (record_of x)
 abbrev pub strand_metrics : List ℕ → List ℕ → Result Figures Refusal
 strand_metrics depths errors = answer (rate_refused (length depths) (length errors)) (strand_figures depths errors)
 
--- For the code, which has a strand's two arrays as one value.
+-- For the code, which has a strand's two arrays as one value, and what a call is given as another.
 
 abbrev pub input_of : Counts ℕ → Option (Counts ℕ) → List ℕ → List ℕ → Input
 input_of a None bases errors = input a.depths.now a.errors.now false [] [] bases errors
 input_of a (Some b) bases errors = input a.depths.now a.errors.now true b.depths.now b.errors.now bases errors
 
+abbrev pub input_given : MetricsInput ℕ ℕ → Input
+input_given x = input_of x.a x.b x.bases.now x.errors.now
+
 abbrev pub lengths_in : {T : Type 0} → Counts T → CountsLengths
 lengths_in s = counts_lengths s.depths.now s.errors.now
 
-abbrev pub second_lengths : Option (Counts ℕ) → Option CountsLengths
+abbrev pub second_lengths : {T : Type 0} → Option (Counts T) → Option CountsLengths
 second_lengths None = None
 second_lengths (Some s) = Some (lengths_in s)
+
+abbrev pub input_lengths : {S R : Type 0} → MetricsInput S R → MetricsLengths
+input_lengths x = record { a = lengths_in x.a; b = second_lengths x.b; bases = length x.bases.now; errors = length x.errors.now }
 
 -- The depths of a strand that may be absent, and its figures.
 abbrev pub depths_in : Option (Counts ℕ) → List ℕ

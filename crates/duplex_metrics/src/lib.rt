@@ -7,10 +7,10 @@ ghost use Rattle.lists.specs.Part.{only_if};
 ghost use Rattle.caller.specs.Short.{short};
 ghost use Rattle.refusals.specs.Refusal.{refused};
 ghost use Rattle.refusals.specs.Outcome.{answer};
-ghost use Rattle.duplex_metrics.specs.Metrics.{strand_figures, record_depth, is_no_call, metrics_record, input_of, lengths_in, second_lengths, depths_in, figures_in_counts, Even, EvenIfThere, counts_long, counts_ragged, metrics_faults, metrics_of, strand_metrics};
+ghost use Rattle.duplex_metrics.specs.Metrics.{strand_figures, record_depth, is_no_call, metrics_record, lengths_in, input_lengths, input_given, depths_in, figures_in_counts, Even, EvenIfThere, counts_long, counts_ragged, metrics_faults, metrics_of, strand_metrics};
 ghost use Rattle.duplex_metrics.specs.Running.{so_far, added, Continues, running, figures_in};
 
-use caller::{clamp_per_base_to_fgbio_short, rate_refusal};
+use caller::{FGBIO_SHORT_DEPTH_MAX, rate_refusal};
 use dna::NO_CALL_BASE;
 use lists::copy;
 use rates::error_rate;
@@ -30,7 +30,17 @@ pub struct CountsLengths {
     pub errors: usize,
 }
 
-impl<T: Copy> Counts<'_, T> {
+impl<'a, T: Copy> Counts<'a, T> {
+    // Of an absent strand.
+    pub fn none() -> Counts<'a, T>
+        ensures { (result.depths.now ≡ []) × (result.errors.now ≡ []) }
+    {
+        Counts {
+            depths: &[],
+            errors: &[],
+        }
+    }
+
     pub fn lengths(self) -> CountsLengths
         ensures { result ≡ lengths_in self.entry }
     {
@@ -75,6 +85,46 @@ pub struct MetricsLengths {
     pub errors: usize,
 }
 
+// What the metrics of a record are asked with: the strands' arrays, the second strand's where there is one, and the record's bases and
+// errors. The strands' numbers stand as S, the record's as R: the line program has the ones as bytes and the others as numbers.
+#[derive(Clone, Copy)]
+pub struct MetricsInput<'a, S, R> {
+    pub a: Counts<'a, S>,
+    pub b: Option<Counts<'a, S>>,
+    pub bases: &'a [u8],
+    pub errors: &'a [R],
+}
+
+impl<'a, S: Copy, R: Copy> MetricsInput<'a, S, R> {
+    // For arrays of a function's own: Rattle's borrow checker takes strands that are lent for different times as arguments, not as fields.
+    pub fn new(
+        a: Counts<'a, S>,
+        b: Option<Counts<'a, S>>,
+        bases: &'a [u8],
+        errors: &'a [R],
+    ) -> MetricsInput<'a, S, R>
+        ensures { (result.a ≡ a.entry) × (result.b ≡ b.entry) × (result.bases.now ≡ bases.now) × (result.errors.now ≡ errors.now) }
+    {
+        MetricsInput {
+            a,
+            b,
+            bases,
+            errors,
+        }
+    }
+
+    pub fn lengths(self) -> MetricsLengths
+        ensures { result ≡ input_lengths self.entry }
+    {
+        MetricsLengths {
+            a: self.a.lengths(),
+            b: self.b.map(|b| b.lengths()),
+            bases: self.bases.len(),
+            errors: self.errors.len(),
+        }
+    }
+}
+
 // The figures of the positions so far, and how many of them are no-calls: handed on by value, one position at a time.
 #[derive(Clone, Copy, Debug, PartialEq, Eq)]
 pub struct Running {
@@ -94,6 +144,7 @@ fn no_call(base: u8, depth: u16) -> u32
 
 impl Running {
     // Of no positions, before one with this depth.
+    #[tactic(auto, unfolding(lists::specs::Count::count_of))]
     fn start(first: u16) -> Running
         ensures { result ≡ so_far first [] [] [] }
     {
@@ -107,6 +158,7 @@ impl Running {
     }
 
     // With one position more: its depth and its error, which are capped already, and its base.
+    #[tactic(auto, using(crate::proofs::SoFar::continues))]
     fn add(mut self, depth: u16, error: u16, base: u8) -> Running
         requires { (self.depths ≤ 4294901760) × (self.errors ≤ 4294901760) × (self.nc ≤ 4294901760) }
         ensures { (result ≡ added self depth error base) × Continues self depth error base result }
@@ -120,14 +172,16 @@ impl Running {
     }
 }
 
-// A depth or an error, capped, in 16 bits: as narrow as that the loop below takes eight positions at a time.
+// A depth or an error, capped, in 16 bits, not clamp_per_base_to_fgbio_short's 32: as narrow as that the loop below takes eight positions
+// at a time.
 fn capped_u16(n: u16) -> u16
     ensures { result ≡ short n }
 {
-    clamp_per_base_to_fgbio_short(n) as u16
+    n.min(FGBIO_SHORT_DEPTH_MAX)
 }
 
 // The depth at a position: of both strands, or of one alone. A `bool` beside the slice for speed, as running_over says.
+#[tactic(auto, unfolding(lists::specs::Part::only_if, crate::specs::Metrics::record_depth))]
 fn depth_at(a: &[u16], second: bool, b: &[u16], i: usize) -> u16
     requires { (i < length a.now) × (second ≡ true → i < length b.now) }
     ensures { result ≡ record_depth a.now (only_if second b.now) i }
@@ -140,6 +194,7 @@ fn depth_at(a: &[u16], second: bool, b: &[u16], i: usize) -> u16
 }
 
 // The depth of the first position, 0 where there is none. A `bool` beside the slice for speed, as running_over says.
+#[tactic(auto, unfolding(lists::specs::Part::only_if, crate::specs::Metrics::record_depth))]
 fn first_depth(a: &[u16], second: bool, b: &[u16]) -> u16
     requires { second ≡ true → length b.now ≡ length a.now }
     ensures { result ≡ record_depth a.now (only_if second b.now) 0 }
@@ -151,6 +206,7 @@ fn first_depth(a: &[u16], second: bool, b: &[u16]) -> u16
 }
 
 // The base at a position, 0 where bases are not asked for. A `bool` beside the slice for speed, as running_over says.
+#[tactic(auto, unfolding(lists::specs::Part::only_if))]
 fn base_at(asked: bool, bases: &[u8], i: usize) -> u8
     requires { asked ≡ true → i < length bases.now }
     ensures { result ≡ get_or (only_if asked bases.now) i 0 }
@@ -194,7 +250,9 @@ fn figures_in(r: Running) -> Figures
     }
 }
 
-// A strand's own figures: there is no second strand, and no bases are asked for.
+// A strand's own figures: there is no second strand, and no bases are asked for. Even is no ghost field of Counts, which callers build of
+// any arrays; a type of its own would have to be made of the second strand in a closure, which does not know that the rows were tested.
+#[tactic(auto, using(crate::proofs::Depths::one_strand), unfolding(lists::specs::Part::only_if, crate::specs::Metrics::strand_figures))]
 fn strand_figures(s: Counts<u16>) -> Figures
     requires { Even s }
     ensures { result ≡ strand_figures s.entry.depths.now s.entry.errors.now }
@@ -207,32 +265,52 @@ fn second_figures(s: Option<Counts<u16>>) -> Figures
     requires { EvenIfThere s }
     ensures { result ≡ figures_in_counts s.entry }
 {
-    let absent = Counts {
-        depths: &[],
-        errors: &[],
-    };
-    strand_figures(s.unwrap_or(absent))
+    strand_figures(s.unwrap_or(Counts::none()))
+}
+
+// What a record's figures are of: the depths of two strands, of which the second may be empty, and its own errors and bases.
+#[derive(Clone, Copy)]
+struct Columns<'a> {
+    a: &'a [u16],
+    b: &'a [u16],
+    errors: &'a [u16],
+    bases: &'a [u8],
+    ghost same: { length bases.now ≡ length errors.now },
+    ghost few: { length errors.now ≤ 1024 },
 }
 
 // Where a strand is shorter than the record: over copies of both with zeros behind them.
-fn padded_running(a: &[u16], b: &[u16], errors: &[u16], bases: &[u8]) -> Running
-    requires { (length bases.now ≡ length errors.now) × (length errors.now ≤ 1024) }
-    ensures { result ≡ running a.now b.now errors.now bases.now }
+#[tactic(auto, using(crate::proofs::SoFar::alike, crate::proofs::SoFar::padded_cut), unfolding(lists::specs::Part::only_if))]
+fn padded_running(x: Columns) -> Running
+    ensures { result ≡ running x.entry.a.now x.entry.b.now x.entry.errors.now x.entry.bases.now }
 {
     // No heap: arrays of the most that is looked at.
     let mut a_depths = [0; 1024];
     let mut b_depths = [0; 1024];
-    copy(a, &mut a_depths);
-    copy(b, &mut b_depths);
-    let n = errors.len();
-    running_over(&a_depths[0..n], true, &b_depths[0..n], errors, true, bases)
+    copy(x.a, &mut a_depths);
+    copy(x.b, &mut b_depths);
+    let n = x.errors.len();
+    running_over(
+        &a_depths[0..n],
+        true,
+        &b_depths[0..n],
+        x.errors,
+        true,
+        x.bases,
+    )
 }
 
-// The figures and the no-calls of a record, over the depths of two strands, of which the second may be empty.
-fn record_running(a: &[u16], b: &[u16], errors: &[u16], bases: &[u8]) -> Running
-    requires { (length bases.now ≡ length errors.now) × (length errors.now ≤ 1024) }
-    ensures { result ≡ running a.now b.now errors.now bases.now }
+// The figures and the no-calls of a record.
+#[tactic(auto, using(crate::proofs::SoFar::alike, crate::proofs::SoFar::cut_at, crate::proofs::SoFar::empty_at), unfolding(lists::specs::Part::only_if))]
+fn record_running(x: Columns) -> Running
+    ensures { result ≡ running x.entry.a.now x.entry.b.now x.entry.errors.now x.entry.bases.now }
 {
+    let Columns {
+        a,
+        b,
+        errors,
+        bases,
+    } = x;
     let n = errors.len();
     if n <= a.len() {
         if n <= b.len() {
@@ -242,7 +320,7 @@ fn record_running(a: &[u16], b: &[u16], errors: &[u16], bases: &[u8]) -> Running
             return running_over(&a[0..n], false, b, errors, true, bases);
         }
     }
-    padded_running(a, b, errors, bases)
+    padded_running(x)
 }
 
 // The metrics of one strand. Refuses by 7, 8.
@@ -299,13 +377,6 @@ pub fn metrics_refusal(n: MetricsLengths) -> Result<(), Refusal>
     )
 }
 
-// How long the arrays of a strand are that may be absent.
-fn lengths_of(s: Option<Counts<u16>>) -> Option<CountsLengths>
-    ensures { result ≡ second_lengths s.entry }
-{
-    s.map(|s| s.lengths())
-}
-
 // The depths of a strand that may be absent.
 pub fn depths_of<'a>(s: Option<Counts<'a, u16>>) -> &'a [u16]
     ensures { result.now ≡ depths_in s.entry }
@@ -313,22 +384,22 @@ pub fn depths_of<'a>(s: Option<Counts<'a, u16>>) -> &'a [u16]
     s.map_or(&[], |s| s.depths)
 }
 
-// The metrics of a record: the strands' depths and errors, the second strand's where there is one, and the record's bases and
-// errors. A strand may be longer or shorter than the record. Refuses by 7, 8.
-pub fn duplex_metrics(
-    a: Counts<u16>,
-    b: Option<Counts<u16>>,
-    bases: &[u8],
-    errors: &[u16],
-) -> Result<MetricsRecord, Refusal>
-    ensures { result ≡ metrics_of (input_of a.entry b.entry bases.now errors.now) }
+// The metrics of a record. A strand may be longer or shorter than the record. Refuses by 7, 8.
+#[tactic(auto, using(crate::proofs::Given::told_given, crate::proofs::Given::record_given, crate::proofs::Given::refused_alike, crate::proofs::Given::passed_alike), unfolding(crate::specs::Metrics::record_figures))]
+pub fn duplex_metrics(x: MetricsInput<u16, u16>) -> Result<MetricsRecord, Refusal>
+    ensures { result ≡ metrics_of (input_given x.entry) }
 {
-    metrics_refusal(MetricsLengths {
-        a: a.lengths(),
-        b: lengths_of(b),
-        bases: bases.len(),
-        errors: errors.len(),
-    })?;
-    let c = record_running(a.depths, depths_of(b), errors, bases);
-    Ok(metrics_record(strand_figures(a), second_figures(b), figures_in(c), c.nc))
+    metrics_refusal(x.lengths())?;
+    let c = record_running(Columns {
+        a: x.a.depths,
+        b: depths_of(x.b),
+        errors: x.errors,
+        bases: x.bases,
+    });
+    Ok(metrics_record(
+        strand_figures(x.a),
+        second_figures(x.b),
+        figures_in(c),
+        c.nc,
+    ))
 }

@@ -3,10 +3,10 @@
 #![tactic(auto)]
 
 ghost use Rattle.std.specs.Prelude.{◌≡◌};
-ghost use Rattle.duplex_metrics.specs.Metrics.{input_of, metrics_of};
+ghost use Rattle.duplex_metrics.specs.Metrics.{input_given, metrics_of};
 ghost use Rattle.metrics_bits.specs.Bits.{Numbers, in_bits, metrics_words};
 
-use duplex_metrics::{Counts, MetricsRecord, duplex_metrics};
+use duplex_metrics::{MetricsInput, MetricsRecord, duplex_metrics};
 use refusals::Refusal;
 
 // A record's tags, of which aE, bE and cE are the bits of 32-bit floats.
@@ -43,14 +43,9 @@ fn in_bits(r: MetricsRecord) -> MetricsBits
 }
 
 // The metrics of a record, as duplex_metrics gives them. Refuses by 7, 8.
-pub fn metrics_bits(
-    a: Counts<u16>,
-    b: Option<Counts<u16>>,
-    bases: &[u8],
-    errors: &[u16],
-) -> Result<MetricsBits, Refusal>
-    ensures { result ≡ metrics_words (metrics_of (input_of a.entry b.entry bases.now errors.now)) }
+pub fn metrics_bits(x: MetricsInput<u16, u16>) -> Result<MetricsBits, Refusal>
+    ensures { result ≡ metrics_words (metrics_of (input_given x.entry)) }
 {
-    let record = duplex_metrics(a, b, bases, errors)?;
+    let record = duplex_metrics(x)?;
     Ok(in_bits(record))
 }

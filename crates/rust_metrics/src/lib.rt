@@ -12,7 +12,7 @@ ghost use Rattle.metrics_bits.specs.Bits.{metrics_words};
 ghost use Rattle.rust_metrics.specs.Answers.{range_reply, figures_reply, metrics_reply};
 
 use duplex_depths::{DepthRange, RecordDepths, combined_depths, depth_range};
-use duplex_metrics::{Counts, Figures, strand_metrics};
+use duplex_metrics::{Counts, Figures, MetricsInput, strand_metrics};
 use metrics_bits::{MetricsBits, metrics_bits};
 use refusals::Refusal;
 use replies::Count;
@@ -166,6 +166,7 @@ pub extern "C" fn gedrashiw_strand_metrics(depths: &[u16], errors: &[u16]) -> Fi
 
 // The metrics of a record; second is 0 where there is no second strand. Refuses by 7, 8.
 #[unsafe(no_mangle)]
+#[tactic(auto, using(duplex_metrics::proofs::Given::second_given))]
 pub extern "C" fn gedrashiw_duplex_metrics(
     a_depths: &[u16],
     a_errors: &[u16],
@@ -186,5 +187,10 @@ pub extern "C" fn gedrashiw_duplex_metrics(
         errors: b_errors,
     };
     let b = (second != 0).then_some(b);
-    MetricsReply::from(metrics_bits(a, b, bases, errors))
+    MetricsReply::from(metrics_bits(MetricsInput {
+        a,
+        b,
+        bases,
+        errors,
+    }))
 }

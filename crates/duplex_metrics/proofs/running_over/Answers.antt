@@ -18,18 +18,6 @@ pub loop-i-init : goal.loop-i-init
 loop-i-init c =
     begin (c.start-r.ensures ∙ ap (λ (n : ℕ). so_far n [] [] []) c.first_depth.ensures)
 
-pub depth_at-requires : goal.depth_at-requires
-depth_at-requires c =
-    (omega (arith, c.loop-i-test.true), λ h. omega (arith, c.loop-i-test.true, c.requires.1 h))
-
-pub base_at-requires : goal.base_at-requires
-base_at-requires c = λ h. omega (arith, c.loop-i-test.true, c.requires.2 h)
-
-pub add-r-requires : goal.add-r-requires
-add-r-requires c =
-    let inv = c.loop-i.invariant in
-    (omega (arith, inv.few_depths, c.loop-i-test.true), omega (arith, inv.few_errors, c.loop-i-test.true), omega (arith, inv.few_nc, c.loop-i-test.true))
-
 pub loop-i-preserved : goal.loop-i-preserved
 loop-i-preserved c =
     let given = c.args in
