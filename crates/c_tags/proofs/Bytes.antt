@@ -20,7 +20,7 @@ use Rattle.byte_numbers.proofs.Groups.{all_fit, read_front}
 use Rattle.molecule_evidence.specs.Evidence.{mark_in, count_in, marks_of, unconverted_of, converted_of}
 use Rattle.methylation_evidence.specs.Counts.{tag_counts, counts_refused, summed_counts, summed_refused}
 use Rattle.methylation_evidence.proofs.Counts.{counts_length, summed_length}
-use Rattle.c_tags.specs.Parts.{Fits}
+use Rattle.duplex_tags.specs.Parts.{Countable}
 
 -- An array before a call.
 abbrev pub zeros : List ℕ
@@ -44,7 +44,7 @@ evidence_read bytes few m u c places_is e = e ∙ rw (places_is, read mark_in by
 as_bytes :
     (xs out : List ℕ) {n : ℕ} {L F now : List ℕ}
     → length xs ≡ n
-    → Fits n (length out)
+    → Countable n (length out / 2)
     → L ≡ put xs zeros
     → F ≡ take n L
     → now ≡ put (bytes16 (take (length out / 2) F)) out
@@ -62,7 +62,7 @@ summed_fit n a b few few_a few_b = rw (le-ltb 1024 n few, le-ltb 1024 (length a)
 
 pub counted :
     (counts out : List ℕ) {L F now : List ℕ}
-    → Fits (length counts) (length out)
+    → Countable (length counts) (length out / 2)
     → L ≡ after (counts_refused counts zeros) (tag_counts counts) zeros
     → F ≡ take (length counts) L
     → now ≡ put (bytes16 (take (length out / 2) F)) out
@@ -71,7 +71,7 @@ counted counts out fits held = as_bytes (tag_counts counts) out (counts_length c
 
 pub summed :
     (n : ℕ) (a b out : List ℕ) {L F now : List ℕ}
-    → Fits n (length out)
+    → Countable n (length out / 2)
     → length a ≤ 1024
     → length b ≤ 1024
     → L ≡ after (summed_refused n a b zeros) (summed_counts n a b) zeros

@@ -1,6 +1,7 @@
 -- What is promised of a call over bytes, by its first test, the texts and the counts.
 --     same_test            its first test is the library's, over numbers
 --     early, late, all_written     what it promises where that test refuses, where the texts do, and where all is written
+--     lent_as              the strand that is lent to the library
 --     few_places           how many positions there are at most
 --     Ready, ready         what is written as bytes has room
 --     left_counts          the counts that are written are the strands'
@@ -27,61 +28,70 @@ use Rattle.byte_numbers.specs.Bytes.{words16, bytes16}
 use Rattle.byte_numbers.specs.Groups.{by_group}
 use Rattle.byte_numbers.proofs.Bytes.{length_numbers}
 use Rattle.byte_numbers.proofs.Groups.{length_by_group}
-use Rattle.molecule_evidence.specs.Evidence.{mark_in, count_in, counts_of as counts_in9, unconverted_of, converted_of}
+use Rattle.molecule_evidence.specs.Evidence.{mark_in, count_in, counts_of as counts_in9, marks_of, unconverted_of, converted_of}
 use Rattle.methylation_evidence.specs.Counts.{tag_counts, summed_counts}
-use Rattle.duplex_texts.specs.Texts.{TextArrays}
+use Rattle.methylation.specs.Annotation as held
+use Rattle.methylation.specs.Arrays.{EvidenceArrays, evidence_arrays}
+use Rattle.methylation.specs.declared.MethylationAnnotation.{MethylationAnnotation}
+use Rattle.molecule_strand.specs.Strand.{pattern_held, bytes_held}
+use Rattle.molecule_strand.specs.declared.EncodedAnnotation.{EncodedAnnotation}
+use Rattle.duplex_texts.specs.Texts.{TextArrays, strand_in}
 use Rattle.duplex_texts.specs.Outputs.{strand_lengths, DuplexTextsAs}
 use Rattle.duplex_texts.specs.Parts.{AsLong}
 use Rattle.duplex_texts.specs.declared.TextLengths.{TextLengths}
 use Rattle.duplex_texts.proofs.Refused.{as_long}
 use Rattle.duplex_tags.specs.Tags.{KindArrays, CountArrays, counts_of, kind_counts, duplex_counts}
 use Rattle.duplex_tags.specs.Outputs.{kind_lengths, LeavesCounts}
-use Rattle.duplex_tags.specs.Parts.{counts_refused}
+use Rattle.duplex_tags.specs.Parts.{counts_refused, Countable}
 use Rattle.duplex_tags.specs.declared.KindLengths.{KindLengths}
 use Rattle.duplex_tags.proofs.Counts.{countable}
 use Rattle.duplex_tags.proofs.Refused.{by_own, met_first, passed_first, by_texts, enough_room}
 use Rattle.rust_methylation.specs.Entries.{DuplexArrays, duplex_arrays}
-use Rattle.c_tags.specs.Tags.{strand_of, each_kind, each, TagsBytesAs}
-use Rattle.c_tags.specs.Parts.{seen, strand_seen, lengths_seen, counts_in, Fits}
-use Rattle.c_tags.specs.declared.EncodedEvidence.{EncodedEvidence}
+use Rattle.c_tags.specs.Tags.{each_kind, each, TagsBytesAs}
+use Rattle.c_tags.specs.Parts.{strand_seen, lengths_seen, counts_in}
 
-same_lengths : (e : EncodedEvidence) → lengths_seen e ≡ strand_lengths (strand_seen e)
-same_lengths e = rw (length_by_group 9 mark_in (seen e), length_by_group 9 (count_in 1) (seen e), length_by_group 9 (count_in 5) (seen e))
+same_lengths : (e : Option EncodedAnnotation) → lengths_seen e ≡ strand_lengths (strand_seen e)
+same_lengths e = rw (length_by_group 9 mark_in (bytes_held e), length_by_group 9 (count_in 1) (bytes_held e), length_by_group 9 (count_in 5) (bytes_held e))
 
-same_kind : (k : KindArrays) → counts_in (length k.a) (length k.b) (length k.both) ≡ kind_lengths (each_kind words16 k)
+same_kind : (k : KindArrays) → counts_in (kind_lengths k) ≡ kind_lengths (each_kind words16 k)
 same_kind k = rw (length_numbers 2 k.a, length_numbers 2 k.b, length_numbers 2 k.both)
 
--- Of the evidence that is looked at, all counts are the strand's.
-own_counts : (offset : ℕ) (e : EncodedEvidence) → counts_in9 offset (seen e) ≡ counts_of e.annotation (counts_in9 offset (seen e))
+-- Of the evidence that is held, all counts are the strand's.
+own_counts : (offset : ℕ) (e : Option EncodedAnnotation) → counts_in9 offset (bytes_held e) ≡ counts_of (pattern_held e) (counts_in9 offset (bytes_held e))
 unfolding counts_of only_if by_group tabulate
-own_counts offset e = go e.annotation
-  where
-    go : (annotation : Option ConversionPattern) → counts_in9 offset (only_if (is_annotated annotation) e.bytes.now) ≡ counts_of annotation (counts_in9 offset (only_if (is_annotated annotation) e.bytes.now))
-    go None = refl
-    go (Some pattern) = refl
+own_counts offset None = refl
+own_counts offset (Some m) = refl
 
 -- How many positions they are at most.
-places : (n : ℕ) (e : EncodedEvidence) → AsLong n (strand_seen e) → length (seen e) / 9 ≤ n
-unfolding only_if
-places n e l = go e.annotation l
-  where
-    go : (annotation : Option ConversionPattern) → AsLong n (strand_of annotation (only_if (is_annotated annotation) e.bytes.now)) → length (only_if (is_annotated annotation) e.bytes.now) / 9 ≤ n
-    go None l = omega arith
-    go (Some pattern) l = omega (arith, l.marks refl, length_by_group 9 mark_in e.bytes.now)
+places : (n : ℕ) (e : Option EncodedAnnotation) → AsLong n (strand_seen e) → length (bytes_held e) / 9 ≤ n
+places n None l = omega arith
+places n (Some m) l = omega (arith, l.marks refl, length_by_group 9 mark_in m.evidence.now)
+
+-- The strand that is lent of an annotation and what was read of its bytes.
+pub lent_as :
+    (e : Option EncodedAnnotation) (s : Option MethylationAnnotation) {m : Option ConversionPattern} {read : EvidenceArrays}
+    → m ≡ pattern_held e
+    → held.pattern_held s ≡ m
+    → held.evidence_held s ≡ held.evidence_seen m read
+    → read ≡ evidence_arrays (marks_of (bytes_held e)) (unconverted_of (bytes_held e)) (converted_of (bytes_held e))
+    → strand_in s ≡ strand_seen e
+unfolding by_group tabulate
+lent_as None s same p h is = rw (p, h, same)
+lent_as (Some m) s same p h is = rw (p, h, same, is)
 
 fits_own :
-    (n : ℕ) (e : EncodedEvidence) (offset : ℕ) (out : List ℕ)
+    (n : ℕ) (e : Option EncodedAnnotation) (offset : ℕ) (out : List ℕ)
     → n ≤ 1024
-    → (is_annotated e.annotation ≡ true → length (counts_in9 offset (seen e)) ≡ n)
+    → (is_annotated (pattern_held e) ≡ true → length (counts_in9 offset (bytes_held e)) ≡ n)
     → option_map_or (λ l. n) (strand_lengths (strand_seen e)) 0 ≤ length (words16 out)
     → {xs : List ℕ}
-    → xs ≡ counts_in9 offset (seen e)
-    → Fits (length xs) (length out)
+    → xs ≡ counts_in9 offset (bytes_held e)
+    → Countable (length xs) (length out / 2)
 fits_own n e offset out few whole room x =
-    let c = countable e.annotation n (counts_in9 offset (seen e)) whole few (strand_seen e).evidence (x ∙ own_counts offset e) room in
+    let c = countable (pattern_held e) n (counts_in9 offset (bytes_held e)) whole few (strand_seen e).evidence (x ∙ own_counts offset e) room in
     record { few = c.few; room = omega (arith, c.room, length_numbers 2 out) }
 
-module _ (mode : MethylationMode) (bases : List ℕ) (a b : EncodedEvidence) (before : DuplexArrays) where
+module _ (mode : MethylationMode) (bases : List ℕ) (a b : Option EncodedAnnotation) (before : DuplexArrays) where
   abbrev counts : CountArrays
   counts = each words16 before.counts
 
@@ -92,8 +102,8 @@ module _ (mode : MethylationMode) (bases : List ℕ) (a b : EncodedEvidence) (be
       {of_a of_b : Option EvidenceLengths} {u c : KindLengths} {r : Result (Unit {0}) Refusal}
       → of_a ≡ lengths_seen a
       → of_b ≡ lengths_seen b
-      → u ≡ counts_in (length before.counts.unconverted.a) (length before.counts.unconverted.b) (length before.counts.unconverted.both)
-      → c ≡ counts_in (length before.counts.converted.a) (length before.counts.converted.b) (length before.counts.converted.both)
+      → u ≡ counts_in (kind_lengths before.counts.unconverted)
+      → c ≡ counts_in (kind_lengths before.counts.converted)
       → r ≡ answer (counts_refused (length bases) of_a of_b u c) tt
       → answer {A = Unit {0}} own tt ≡ r
   same_test {of_a} {of_b} {u} {c} a_is b_is u_is c_is e =
@@ -143,19 +153,19 @@ module _ (mode : MethylationMode) (bases : List ℕ) (a b : EncodedEvidence) (be
         let all = rw same at t.answered in
         record { answered = all; the_texts = rw same at t.outputs; the_counts = rw (passed_by _ _ (sym all)).0 l }
 
-    pub few_places : (length (seen a) / 9 ≤ 1024) × (length (seen b) / 9 ≤ 1024)
+    pub few_places : (length (bytes_held a) / 9 ≤ 1024) × (length (bytes_held b) / 9 ≤ 1024)
     few_places =
         let (for_a, for_b) = both_long in
         (omega (arith, places (length bases) a for_a, for_a.few), omega (arith, places (length bases) b for_b, for_b.few))
 
     -- What is written as bytes has room.
     pub record Ready : Type 0 where
-      pub a_unconverted : {xs : List ℕ} → xs ≡ unconverted_of (seen a) → Fits (length xs) (length before.counts.unconverted.a)
-      pub a_converted : {xs : List ℕ} → xs ≡ converted_of (seen a) → Fits (length xs) (length before.counts.converted.a)
-      pub b_unconverted : {xs : List ℕ} → xs ≡ unconverted_of (seen b) → Fits (length xs) (length before.counts.unconverted.b)
-      pub b_converted : {xs : List ℕ} → xs ≡ converted_of (seen b) → Fits (length xs) (length before.counts.converted.b)
-      pub unconverted : Fits (length bases) (length before.counts.unconverted.both)
-      pub converted : Fits (length bases) (length before.counts.converted.both)
+      pub a_unconverted : {xs : List ℕ} → xs ≡ unconverted_of (bytes_held a) → Countable (length xs) (length before.counts.unconverted.a / 2)
+      pub a_converted : {xs : List ℕ} → xs ≡ converted_of (bytes_held a) → Countable (length xs) (length before.counts.converted.a / 2)
+      pub b_unconverted : {xs : List ℕ} → xs ≡ unconverted_of (bytes_held b) → Countable (length xs) (length before.counts.unconverted.b / 2)
+      pub b_converted : {xs : List ℕ} → xs ≡ converted_of (bytes_held b) → Countable (length xs) (length before.counts.converted.b / 2)
+      pub unconverted : Countable (length bases) (length before.counts.unconverted.both / 2)
+      pub converted : Countable (length bases) (length before.counts.converted.both / 2)
 
     pub ready : Ready
     ready =
@@ -173,10 +183,10 @@ module _ (mode : MethylationMode) (bases : List ℕ) (a b : EncodedEvidence) (be
 
   pub left_counts :
       (now : CountArrays) {au ac bu bc : List ℕ}
-      → au ≡ unconverted_of (seen a)
-      → ac ≡ converted_of (seen a)
-      → bu ≡ unconverted_of (seen b)
-      → bc ≡ converted_of (seen b)
+      → au ≡ unconverted_of (bytes_held a)
+      → ac ≡ converted_of (bytes_held a)
+      → bu ≡ unconverted_of (bytes_held b)
+      → bc ≡ converted_of (bytes_held b)
       → now.unconverted.a ≡ put (bytes16 (tag_counts au)) before.counts.unconverted.a
       → now.converted.a ≡ put (bytes16 (tag_counts ac)) before.counts.converted.a
       → now.unconverted.b ≡ put (bytes16 (tag_counts bu)) before.counts.unconverted.b

@@ -7,77 +7,82 @@
 ghost use Rattle.std.specs.Prelude.{◌≡◌, ◌/◌, ◌≤◌, length};
 ghost use Rattle.lists.specs.Output.{put};
 ghost use Rattle.byte_numbers.specs.Bytes.{bytes16};
+ghost use Rattle.molecule_strand.specs.Strand.{pattern_held, bytes_held};
 ghost use Rattle.methylation_evidence.specs.Counts.{tag_counts, summed_counts};
 ghost use Rattle.duplex_texts.specs.Lent.{texts_out, SameTexts};
 ghost use Rattle.duplex_texts.specs.Texts.{text_arrays};
+ghost use Rattle.duplex_tags.specs.Lent.{counts_out, SameKind};
 ghost use Rattle.duplex_tags.specs.Tags.{count_arrays};
+ghost use Rattle.duplex_tags.specs.Parts.{Countable};
 ghost use Rattle.rust_methylation.specs.Entries.{duplex_arrays};
-ghost use Rattle.c_tags.specs.Lent.{counts_out, SameBytes};
 ghost use Rattle.c_tags.specs.Tags.{annotation_bytes, TagsBytesAs, TagsEntry};
-ghost use Rattle.c_tags.specs.Parts.{seen, strand_seen, lengths_seen, EvidenceReadAs, ReadAs, counts_in, Fits};
+ghost use Rattle.c_tags.specs.Parts.{strand_seen, lengths_seen, EvidenceReadAs, ReadAs, counts_in};
 
-use duplex_tags::{KindLengths, counts_refusal};
-use duplex_texts::{StrandSlices, TextLengths, TextOutputs, duplex_texts};
-use lists::{front, only_if};
+use duplex_tags::{KindLengths, KindOutputs, counts_refusal};
+use duplex_texts::{TextLengths, TextOutputs, duplex_texts};
+use lists::front;
 use methylation::{
-    ConversionPattern, EvidenceLengths, EvidenceOutputs, EvidenceSlices, MethylationMode,
+    ConversionPattern, EvidenceLengths, EvidenceOutputs, EvidenceSlices, MethylationAnnotation,
+    MethylationMode,
 };
 use methylation_evidence::{summed_counts, tag_counts};
 use molecule_evidence::{POSITION_BYTES, read_evidence};
-use molecule_strand::{annotation_of, wrong_pattern};
+use molecule_strand::{EncodedAnnotation, pattern_of, wrong_pattern};
 use refusals::{Refusal, refuse};
 use rust_methylation::DuplexTagsReply;
 
-// A strand's annotation with its evidence as bytes, nine a position. Without an annotation the bytes are not looked at.
-#[derive(Clone, Copy)]
-struct EncodedEvidence<'a> {
-    annotation: Option<ConversionPattern>,
-    bytes: &'a [u8],
+// A strand's annotation as C gives it: any flag but 0 says that there is one. Refuses by 13 a pattern above 1, and bytes that are not
+// whole positions. Without an annotation neither is looked at.
+#[tactic(auto, unfolding(lists::specs::Part::only_if))]
+fn read_annotation<'a>(
+    annotated: u8,
+    pattern: u8,
+    evidence: &'a [u8],
+) -> Result<Option<EncodedAnnotation<'a>>, Refusal>
+    ensures { EvidenceReadAs (annotation_bytes annotated pattern evidence.now) result }
+{
+    if annotated == 0 {
+        return Ok(None);
+    }
+    let broken = wrong_pattern(true, pattern) | (evidence.len() % POSITION_BYTES != 0);
+    refuse(broken, Refusal::Broken)?;
+    let pattern = pattern_of(pattern);
+    Ok(Some(EncodedAnnotation { pattern, evidence }))
 }
 
-impl<'a> EncodedEvidence<'a> {
-    // As C gives it: any flag but 0 says that there is an annotation. Refuses by 13 a pattern above 1, and bytes that are not whole
-    // positions.
-    fn read(annotated: u8, pattern: u8, bytes: &'a [u8]) -> Result<EncodedEvidence<'a>, Refusal>
-        ensures { EvidenceReadAs (annotation_bytes annotated pattern bytes.now) result }
-    {
-        let told = annotated != 0;
-        let broken = wrong_pattern(told, pattern) | (told & (bytes.len() % POSITION_BYTES != 0));
-        refuse(broken, Refusal::Broken)?;
-        Ok(EncodedEvidence {
-            annotation: annotation_of(told, pattern),
-            bytes,
-        })
-    }
+// The pattern of an annotation, where there is one.
+fn pattern_in(s: Option<EncodedAnnotation>) -> Option<ConversionPattern>
+    ensures { result ≡ pattern_held s.entry }
+{
+    s.map(|annotation| annotation.pattern)
+}
 
-    // The bytes that are looked at.
-    fn seen(self) -> &'a [u8]
-        ensures { result.now ≡ seen self.entry }
-    {
-        only_if(self.annotation.is_some(), self.bytes)
-    }
+// The bytes of its evidence; without an annotation none.
+fn bytes_of<'a>(s: Option<EncodedAnnotation<'a>>) -> &'a [u8]
+    ensures { result.now ≡ bytes_held s.entry }
+{
+    s.map_or(&[], |annotation| annotation.evidence)
+}
 
-    // How many positions they are.
-    fn places(self) -> usize
-        ensures { result ≡ length (seen self.entry) / 9 }
-    {
-        self.seen().len() / POSITION_BYTES
-    }
+// How many positions they are.
+fn places(s: Option<EncodedAnnotation>) -> usize
+    ensures { result ≡ length (bytes_held s.entry) / 9 }
+{
+    bytes_of(s).len() / POSITION_BYTES
+}
 
-    // How long its evidence is, where there is an annotation.
-    fn lengths(self) -> Option<EvidenceLengths>
-        ensures { result ≡ lengths_seen self.entry }
-    {
-        self.annotation
-            .and(Some(EvidenceLengths::of(self.places())))
-    }
+// How long its evidence is, where there is an annotation.
+fn lengths_of(s: Option<EncodedAnnotation>) -> Option<EvidenceLengths>
+    ensures { result ≡ lengths_seen s.entry }
+{
+    s.map(|annotation| EvidenceLengths::of(annotation.evidence.len() / POSITION_BYTES))
 }
 
 // What is given for a call: its strands and the chemistry.
 #[derive(Clone, Copy)]
 struct Given<'a> {
-    a: EncodedEvidence<'a>,
-    b: EncodedEvidence<'a>,
+    a: Option<EncodedAnnotation<'a>>,
+    b: Option<EncodedAnnotation<'a>>,
     mode: MethylationMode,
 }
 
@@ -93,37 +98,26 @@ fn read_given<'a>(
 ) -> Result<Given<'a>, Refusal>
     ensures { ReadAs (annotation_bytes a_annotated a_pattern a_evidence.now) (annotation_bytes b_annotated b_pattern b_evidence.now) mode result }
 {
-    let a = EncodedEvidence::read(a_annotated, a_pattern, a_evidence)?;
-    let b = EncodedEvidence::read(b_annotated, b_pattern, b_evidence)?;
+    let a = read_annotation(a_annotated, a_pattern, a_evidence)?;
+    let b = read_annotation(b_annotated, b_pattern, b_evidence)?;
     let mode = MethylationMode::try_from(mode)?;
     Ok(Given { a, b, mode })
 }
 
-// The outputs for one kind of counts as bytes: the first strand's, the second's, and for both summed. A function that is lent them
-// leaves each slice where it is (specs/Lent.antt).
-#[derive(Drop)]
-struct ByteKind<'a> {
-    a: &'a mut [u8],
-    b: &'a mut [u8],
-    both: &'a mut [u8],
-}
-
-impl ByteKind<'_> {
-    // How many counts they hold.
-    fn counts(&self) -> KindLengths
-        ensures { result ≡ counts_in (length self.now.a.now) (length self.now.b.now) (length self.now.both.now) }
-    {
-        KindLengths {
-            a: self.a.len() / 2,
-            b: self.b.len() / 2,
-            both: self.both.len() / 2,
-        }
+// How many counts outputs of so many bytes hold.
+fn counts_in(bytes: KindLengths) -> KindLengths
+    ensures { result ≡ counts_in bytes }
+{
+    KindLengths {
+        a: bytes.a / 2,
+        b: bytes.b / 2,
+        both: bytes.both / 2,
     }
 }
 
 // A strand's counts of one kind, held to 32,767, as bytes.
 fn write_held(counts: &[u32], out: &mut [u8])
-    requires { Fits (length counts.now) (length out.old) }
+    requires { Countable (length counts.now) (length out.old / 2) }
     ensures { out.new ≡ put (bytes16 (tag_counts counts.now)) out.old }
 {
     // No heap: arrays of the most that is looked at.
@@ -134,7 +128,7 @@ fn write_held(counts: &[u32], out: &mut [u8])
 
 // Two strands' counts of one kind, summed over so many positions, as bytes.
 fn write_summed(positions: usize, a: &[u32], b: &[u32], out: &mut [u8])
-    requires fits { Fits positions (length out.old) }
+    requires fits { Countable positions (length out.old / 2) }
     requires few { (length a.now ≤ 1024) × (length b.now ≤ 1024) }
     ensures { out.new ≡ put (bytes16 (summed_counts positions a.now b.now)) out.old }
 {
@@ -144,17 +138,18 @@ fn write_summed(positions: usize, a: &[u32], b: &[u32], out: &mut [u8])
     byte_numbers::write(front(&sums, positions), out);
 }
 
-// A record's tags, from its bases and the evidence of its strands. Refuses by 7, 8, 12.
+// A record's tags, from its bases and the evidence of its strands. Refuses by 7, 8, 12. No struct of the two kinds of counts: who makes
+// one that nests lent structs learns nothing of what their slices hold.
 fn write_tags(
     bases: &[u8],
-    a: EncodedEvidence<'_>,
-    b: EncodedEvidence<'_>,
+    a: Option<EncodedAnnotation>,
+    b: Option<EncodedAnnotation>,
     mode: MethylationMode,
     texts: &mut TextOutputs<'_>,
-    unconverted: &mut ByteKind<'_>,
-    converted: &mut ByteKind<'_>,
+    unconverted: &mut KindOutputs<'_, u8>,
+    converted: &mut KindOutputs<'_, u8>,
 ) -> Result<TextLengths, Refusal>
-    ensures same_references { SameTexts texts.old texts.new × SameBytes unconverted.old unconverted.new × SameBytes converted.old converted.new }
+    ensures same_references { SameTexts texts.old texts.new × SameKind unconverted.old unconverted.new × SameKind converted.old converted.new }
     ensures tagged { TagsBytesAs mode bases.now (strand_seen a.entry) (strand_seen b.entry)
         (duplex_arrays (texts_out texts.old) (counts_out unconverted.old converted.old))
         (duplex_arrays (texts_out texts.new) (counts_out unconverted.new converted.new))
@@ -163,17 +158,17 @@ fn write_tags(
     let n = bases.len();
     counts_refusal(
         n,
-        a.lengths(),
-        b.lengths(),
-        unconverted.counts(),
-        converted.counts(),
+        lengths_of(a),
+        lengths_of(b),
+        counts_in(unconverted.lengths()),
+        counts_in(converted.lengths()),
     )?;
-    // No heap: arrays of the most that is looked at.
+    // No heap: arrays of the most that is looked at. No struct of three: it would be taken apart for the outputs and for the slices.
     let mut a_marks = [0; 1024];
     let mut a_unconverted = [0; 1024];
     let mut a_converted = [0; 1024];
     read_evidence(
-        a.seen(),
+        bytes_of(a),
         &mut EvidenceOutputs {
             marks: &mut a_marks,
             unconverted: &mut a_unconverted,
@@ -184,35 +179,21 @@ fn write_tags(
     let mut b_unconverted = [0; 1024];
     let mut b_converted = [0; 1024];
     read_evidence(
-        b.seen(),
+        bytes_of(b),
         &mut EvidenceOutputs {
             marks: &mut b_marks,
             unconverted: &mut b_unconverted,
             converted: &mut b_converted,
         },
     );
-    let a_read = EvidenceSlices {
-        marks: &a_marks,
-        unconverted: &a_unconverted,
-        converted: &a_converted,
-    };
-    let b_read = EvidenceSlices {
-        marks: &b_marks,
-        unconverted: &b_unconverted,
-        converted: &b_converted,
-    };
-    let a_evidence = a_read.front(a.places());
-    let b_evidence = b_read.front(b.places());
+    let a_read = EvidenceSlices::new(&a_marks, &a_unconverted, &a_converted);
+    let b_read = EvidenceSlices::new(&b_marks, &b_unconverted, &b_converted);
+    let a_evidence = a_read.front(places(a));
+    let b_evidence = b_read.front(places(b));
     let lengths = duplex_texts(
         bases,
-        StrandSlices {
-            annotation: a.annotation,
-            evidence: a_evidence,
-        },
-        StrandSlices {
-            annotation: b.annotation,
-            evidence: b_evidence,
-        },
+        MethylationAnnotation::of(pattern_in(a), a_evidence),
+        MethylationAnnotation::of(pattern_in(b), b_evidence),
         mode,
         texts,
     )?;
@@ -280,12 +261,12 @@ pub extern "C" fn gedrashiw_methylation_tags(
         mm: mm_out,
         ml: ml_out,
     };
-    let mut unconverted = ByteKind {
+    let mut unconverted = KindOutputs {
         a: a_unconverted_out,
         b: b_unconverted_out,
         both: unconverted_out,
     };
-    let mut converted = ByteKind {
+    let mut converted = KindOutputs {
         a: a_converted_out,
         b: b_converted_out,
         both: converted_out,
@@ -299,7 +280,8 @@ pub extern "C" fn gedrashiw_methylation_tags(
         b_evidence,
         mode,
     );
-    // No `?`: a function that answers a Result would have this whole contract once more.
+    // No `?`: its function would have this whole contract once more. A closure was tried (rust_padded): of outputs that it takes along
+    // nothing is known where it is not called.
     match given {
         Ok(given) => DuplexTagsReply::from(write_tags(
             bases,
@@ -310,6 +292,6 @@ pub extern "C" fn gedrashiw_methylation_tags(
             &mut unconverted,
             &mut converted,
         )),
-        Err(refusal) => DuplexTagsReply::from(Err::<TextLengths, Refusal>(refusal)),
+        Err(refusal) => DuplexTagsReply::from(refusal),
     }
 }

@@ -1,3 +1,4 @@
 pub mod Counts
 pub mod Refused
 pub mod Most
+pub mod Absent

@@ -4,17 +4,17 @@
 
 ghost use Rattle.std.specs.Prelude.{◌≡◌, None, length};
 ghost use Rattle.refusals.specs.Outcome.{answer};
+ghost use Rattle.methylation.specs.Arrays.{evidence_in};
 ghost use Rattle.methylation_evidence.specs.Counts.{tag_counts, summed_counts};
 ghost use Rattle.duplex_texts.specs.Lent.{texts_out, SameTexts};
 ghost use Rattle.duplex_texts.specs.Texts.{strand_in};
-ghost use Rattle.duplex_tags.specs.Lent.{kind_out, counts_out, SameKind};
-ghost use Rattle.duplex_tags.specs.Tags.{counts_of, kind_arrays};
-ghost use Rattle.duplex_tags.specs.Outputs.{kind_lengths, kind_too_short, LeavesKind, DuplexTaggedAs};
+ghost use Rattle.duplex_tags.specs.Lent.{kind_out, counts_out, lengths_in, SameKind};
+ghost use Rattle.duplex_tags.specs.Tags.{kind_arrays};
+ghost use Rattle.duplex_tags.specs.Outputs.{kind_too_short, LeavesKind, DuplexTaggedAs};
 ghost use Rattle.duplex_tags.specs.Parts.{needed_counts, counts_refused, Countable};
 
-use duplex_texts::{StrandSlices, TextLengths, TextOutputs, duplex_texts, given_refusal};
-use lists::only_if;
-use methylation::{ConversionPattern, EvidenceLengths, MethylationMode};
+use duplex_texts::{TextLengths, TextOutputs, duplex_texts, given_refusal, lengths_of};
+use methylation::{EvidenceLengths, EvidenceSlices, MethylationAnnotation, MethylationMode};
 use methylation_evidence::{summed_counts, tag_counts};
 use refusals::{Refusal, refuse};
 
@@ -26,18 +26,18 @@ pub struct KindLengths {
     pub both: usize,
 }
 
-// The outputs for one kind of counts: the first strand's, the second's, and for both summed. A function that is lent them leaves each
-// slice where it is (specs/Lent.antt).
+// The outputs for one kind of counts, as numbers or as bytes: the first strand's, the second's, and for both summed. A function that is
+// lent them leaves each slice where it is (specs/Lent.antt).
 #[derive(Drop)]
-pub struct KindOutputs<'a> {
-    pub a: &'a mut [u16],
-    pub b: &'a mut [u16],
-    pub both: &'a mut [u16],
+pub struct KindOutputs<'a, T> {
+    pub a: &'a mut [T],
+    pub b: &'a mut [T],
+    pub both: &'a mut [T],
 }
 
-impl KindOutputs<'_> {
-    fn lengths(&self) -> KindLengths
-        ensures { result ≡ kind_lengths (kind_out self.now) }
+impl<T> KindOutputs<'_, T> {
+    pub fn lengths(&self) -> KindLengths
+        ensures { result ≡ lengths_in self.now }
     {
         KindLengths {
             a: self.a.len(),
@@ -48,6 +48,7 @@ impl KindOutputs<'_> {
 }
 
 // How many counts of one kind go to each output: none of a strand without evidence.
+// The strands are two operands, here and below: a struct of both would be taken apart for each one's counts.
 fn needed_counts(
     positions: usize,
     a: Option<EvidenceLengths>,
@@ -69,7 +70,7 @@ fn kind_too_short(needed: KindLengths, out: KindLengths) -> bool
     (out.a < needed.a) | ((out.b < needed.b) | (out.both < needed.both))
 }
 
-// Refuses the sequence, the evidence, or the outputs of counts, by their lengths.
+// Refuses the sequence, the evidence, or the outputs of counts, by their lengths. Those of the two kinds come apart, as the outputs do.
 pub fn counts_refusal(
     bases: usize,
     a: Option<EvidenceLengths>,
@@ -85,16 +86,15 @@ pub fn counts_refusal(
     refuse(too_short, Refusal::OutputTooShort)
 }
 
-// A strand's counts of one kind: none without an annotation.
-#[tactic(auto, unfolding(crate::specs::Tags::counts_of))]
-fn counts_of(annotation: Option<ConversionPattern>, counts: &[u32]) -> &[u32]
-    ensures { result.now ≡ counts_of annotation counts.now }
+// The evidence of a strand's annotation; without one none.
+fn evidence_of<'a>(s: Option<MethylationAnnotation<'a>>) -> EvidenceSlices<'a>
+    ensures { evidence_in result ≡ (strand_in s.entry).evidence }
 {
-    only_if(annotation.is_some(), counts)
+    s.map_or(EvidenceSlices::none(), |annotation| annotation.evidence)
 }
 
 // Writes each strand's counts of one kind, and their sums over the sequence. No call is refused here.
-fn write_counts(positions: usize, a: &[u32], b: &[u32], out: &mut KindOutputs<'_>)
+fn write_counts(positions: usize, a: &[u32], b: &[u32], out: &mut KindOutputs<'_, u16>)
     requires of_a { Countable (length a.now) (length out.old.a.now) }
     requires of_b { Countable (length b.now) (length out.old.b.now) }
     requires of_both { Countable positions (length out.old.both.now) }
@@ -111,17 +111,18 @@ fn write_counts(positions: usize, a: &[u32], b: &[u32], out: &mut KindOutputs<'_
 
 // A duplex record's sequence and methylation tags, from its consensus bases and the annotations of its strands, in strand order.
 // Each strand's annotation restores the sequence first. Then each strand's MM text, the combined MM and ML with C-to-T groups
-// first, each strand's counts held to 32,767, and the strands' counts summed. Of an absent annotation no array is looked at, and
-// nothing goes to its outputs. A text has at most 5 bytes and 5 for each position, the combined one twice that, and ML 2 for each
+// first, each strand's counts held to 32,767, and the strands' counts summed. Nothing goes to the
+// outputs of an absent annotation. A text has at most 5 bytes and 5 for each position, the combined one twice that, and ML 2 for each
 // position. Answers how many positions there are, and how many bytes each text and the ML array have. Refuses by 7, 8, 12.
+// No struct of the two kinds: who makes one that nests lent structs learns nothing of what their slices hold.
 pub fn duplex_methylation_tags(
     bases: &[u8],
-    a: StrandSlices<'_>,
-    b: StrandSlices<'_>,
+    a: Option<MethylationAnnotation>,
+    b: Option<MethylationAnnotation>,
     mode: MethylationMode,
     texts: &mut TextOutputs<'_>,
-    unconverted: &mut KindOutputs<'_>,
-    converted: &mut KindOutputs<'_>,
+    unconverted: &mut KindOutputs<'_, u16>,
+    converted: &mut KindOutputs<'_, u16>,
 ) -> Result<TextLengths, Refusal>
     ensures same_references { SameTexts texts.old texts.new × SameKind unconverted.old unconverted.new × SameKind converted.old converted.new }
     ensures tagged { DuplexTaggedAs mode bases.now (strand_in a.entry) (strand_in b.entry)
@@ -134,23 +135,15 @@ pub fn duplex_methylation_tags(
     let n = bases.len();
     counts_refusal(
         n,
-        a.lengths(),
-        b.lengths(),
+        lengths_of(a),
+        lengths_of(b),
         unconverted.lengths(),
         converted.lengths(),
     )?;
     let lengths = duplex_texts(bases, a, b, mode, texts)?;
-    write_counts(
-        n,
-        counts_of(a.annotation, a.evidence.unconverted),
-        counts_of(b.annotation, b.evidence.unconverted),
-        unconverted,
-    );
-    write_counts(
-        n,
-        counts_of(a.annotation, a.evidence.converted),
-        counts_of(b.annotation, b.evidence.converted),
-        converted,
-    );
+    let a_counts = evidence_of(a);
+    let b_counts = evidence_of(b);
+    write_counts(n, a_counts.unconverted, b_counts.unconverted, unconverted);
+    write_counts(n, a_counts.converted, b_counts.converted, converted);
     Ok(lengths)
 }

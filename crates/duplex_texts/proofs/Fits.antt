@@ -1,28 +1,15 @@
 -- Calls of other crates that no row refuses here, so that what they write is known.
---     bases_fit, restore_fits, tags_fit     of restoring a sequence, and of a strand's tags
+--     restore_fits, tags_fit     of restoring a sequence, and of a strand's tags
 -- Assumes nothing.
 use mathlib.Core.Path.{◌≡◌, refl}
-use mathlib.Core.Bool.{true}
 use mathlib.Core.List.{List}
 use Prim.Native.Nat.{ℕ, ◌≤◌}
 use borrow.Author.Tests.{le-ltb, eq-eqb}
 use lib.ListN.{length}
-use Rattle.methylation.specs.Methylation.{is_annotated}
 use Rattle.methylation.specs.declared.MethylationMode.{MethylationMode}
-use Rattle.methylation_restore.specs.Restore.{restore_refused, strand_refused}
+use Rattle.methylation_restore.specs.Restore.{restore_refused}
 use Rattle.mm_ml.specs.Tags.{Annotated, Evident, mm_text, ml_array, tags_refused}
-use Rattle.std.proofs.Common.{None, Some, Option}
-use Rattle.methylation.specs.declared.ConversionPattern.{ConversionPattern}
-
-pub bases_fit :
-    (annotation : Option ConversionPattern) (bases marks out : List ℕ)
-    → length bases ≤ 1024
-    → (is_annotated annotation ≡ true → length marks ≡ length bases)
-    → length bases ≤ length out
-    → strand_refused annotation bases marks out ≡ None
-bases_fit None bases marks out few same room = rw (le-ltb 1024 (length bases) few, le-ltb (length out) (length bases) room)
-bases_fit (Some pattern) bases marks out few same room =
-    rw (same refl, le-ltb 1024 (length bases) few, eq-eqb (length bases) (length bases) refl, le-ltb (length out) (length bases) room)
+use Rattle.std.proofs.Common.{None}
 
 pub restore_fits : (bases marks : List ℕ) → length bases ≤ 1024 → length marks ≡ length bases → restore_refused bases marks ≡ None
 restore_fits bases marks few same = rw (same, le-ltb 1024 (length bases) few, eq-eqb (length bases) (length bases) refl)

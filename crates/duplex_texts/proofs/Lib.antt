@@ -3,3 +3,4 @@ pub mod Texts
 pub mod Refused
 pub mod Made
 pub mod Most
+pub mod Absent

@@ -4,7 +4,7 @@
 --     needed           how many places go to each output
 --     all_put          what is written from the buffers is the definition's
 -- Assumes nothing.
-use mathlib.Core.Path.{◌≡◌, sym, ap, ◌∙◌}
+use mathlib.Core.Path.{◌≡◌, sym, ◌∙◌}
 use mathlib.Core.Bool.{Bool}
 use mathlib.Core.List.{List}
 use Prim.Native.Nat.{ℕ, ◌+◌, ◌≤◌}
@@ -31,13 +31,6 @@ module _ {mode : MethylationMode} {seq : List ℕ} {s : Strand} {mm ml mm_now ml
 
   pub bytes_front : take r.ml ml_now ≡ strand_ml mode seq s
   bytes_front = front_of _ ml t.bytes t.ml_length
-
-module _ {mode : MethylationMode} {seq : List ℕ} {a b : Strand} {a_mm a_ml b_mm b_ml a_mm_now a_ml_now b_mm_now b_ml_now : List ℕ} {ra rb : TagLengths} (of_a : TextsAs mode seq a a_mm a_ml a_mm_now a_ml_now ra) (of_b : TextsAs mode seq b b_mm b_ml b_mm_now b_ml_now rb) where
-  pub texts_fit : {xs ys : List ℕ} {n : ℕ} → xs ≡ take ra.mm a_mm_now → ys ≡ take rb.mm b_mm_now → ra.mm + rb.mm ≤ n → length xs + length ys ≤ n
-  texts_fit x y room = omega (arith, ap length (x ∙ text_front of_a), ap length (y ∙ text_front of_b), of_a.mm_length, of_b.mm_length, room)
-
-  pub bytes_fit : {xs ys : List ℕ} {n : ℕ} → xs ≡ take ra.ml a_ml_now → ys ≡ take rb.ml b_ml_now → ra.ml + rb.ml ≤ n → length xs + length ys ≤ n
-  bytes_fit x y room = omega (arith, ap length (x ∙ bytes_front of_a), ap length (y ∙ bytes_front of_b), of_a.ml_length, of_b.ml_length, room)
 
 module _ (mode : MethylationMode) (bases : List ℕ) (a b : Strand) where
   abbrev seq : List ℕ

@@ -1,5 +1,6 @@
 -- The sequence and the strands' texts.
---     seq_length             restoring leaves as many bases
+--     strand_length, seq_length     restoring leaves as many bases
+--     restored_by            restoring a sequence by a strand
 --     part_restored          restoring the front of a buffer
 --     no_texts, some_texts   a strand without an annotation, and with one
 --     mm_most, ml_most       how long a strand's texts can be
@@ -21,20 +22,21 @@ use Rattle.refusals.specs.Outcome.{after}
 use Rattle.lists.proofs.Output.{put_fitting, put_whole, put_equal, length_put, copy_next, front_of}
 use Rattle.methylation.specs.Methylation.{is_annotated, pattern_bases}
 use Rattle.methylation.specs.declared.ConversionPattern.{ConversionPattern}
+use Rattle.methylation.specs.declared.MethylationAnnotation.{MethylationAnnotation}
 use Rattle.methylation.specs.declared.MethylationMode.{MethylationMode}
 use Rattle.methylation_restore.specs.Restore.{restored, restore_refused, strand_bases}
 use Rattle.methylation_restore.proofs.Restored.{restored_length}
 use Rattle.mm_ml.specs.Tags.{Annotated, Evident, TaggedAs, calls, all_text, ml_byte, if_called, mm_text, ml_array, tags_if_called, tag_lengths}
 use Rattle.mm_ml.specs.declared.TagLengths.{TagLengths}
 use Rattle.mm_ml.proofs.Group as group
-use Rattle.duplex_texts.specs.Texts.{Strand, restored_seq, against, by_pattern, strand_mm, strand_ml, grouped}
+use Rattle.duplex_texts.specs.Texts.{Strand, strand_in, restored_seq, against, by_pattern, strand_mm, strand_ml, grouped}
 use Rattle.duplex_texts.specs.Parts.{AsLong, TextsAs}
 use Rattle.duplex_texts.proofs.Fits.{restore_fits, tags_fit}
 use Rattle.std.proofs.Common.{None, Some, Option, Result}
 use Rattle.std.specs.Prelude.{unwrap_or}
 use Rattle.std.specs.Result.{result_unwrap_or}
 
-strand_length : (annotation : Option ConversionPattern) (marks bases : List ℕ) → length (strand_bases annotation marks bases) ≡ length bases
+pub strand_length : (annotation : Option ConversionPattern) (marks bases : List ℕ) → length (strand_bases annotation marks bases) ≡ length bases
 strand_length None marks bases = refl
 strand_length (Some pattern) marks bases = restored_length (pattern_bases pattern) marks bases (length bases)
 
@@ -42,23 +44,26 @@ pub seq_length : (bases : List ℕ) (a : Option ConversionPattern) (a_marks : Li
 unfolding restored_seq
 seq_length bases a a_marks b b_marks = strand_length b b_marks (strand_bases a a_marks bases) ∙ strand_length a a_marks bases
 
-pub first_length : (annotation : Option ConversionPattern) (marks bases : List ℕ) → length (strand_bases annotation marks bases) ≡ length bases
-first_length = strand_length
+-- A sequence is restored by a strand with an annotation.
+pub restored_by :
+    (seq : List ℕ) {s : Option MethylationAnnotation} {m : MethylationAnnotation} {now : List ℕ}
+    → s ≡ Some m
+    → AsLong (length seq) (strand_in s)
+    → now ≡ after (restore_refused seq m.evidence.marks.now) (restored m.pattern m.evidence.marks.now seq) seq
+    → now ≡ strand_bases (strand_in s).annotation (strand_in s).evidence.marks seq
+restored_by seq {m = m} is long now_is =
+    let here : AsLong (length seq) (strand_in (Some m)) = rw is at long in
+    let marks = m.evidence.marks.now in
+    rw is (rw (restore_fits seq marks here.few (here.marks refl)) at now_is ∙ put_whole (restored m.pattern marks seq) seq (restored_length (pattern_bases m.pattern) marks seq (length seq)))
 
 -- L is a buffer with xs at its front, and Y that part after a call.
-module _ (pattern : ConversionPattern) (marks xs out : List ℕ) {L Y : List ℕ} {n : ℕ} (e : L ≡ put xs out) (h : n ≡ length xs) where
-  pub part_restored :
-      length xs ≤ 1024
-      → length marks ≡ length xs
-      → Y ≡ after (restore_refused (take n L) marks) (restored pattern marks (take n L)) (take n L)
-      → Y ++ drop n L ≡ put (restored pattern marks xs) out
+module _ (annotation : Option ConversionPattern) (marks xs out : List ℕ) {L Y : List ℕ} {n : ℕ} (e : L ≡ put xs out) (h : n ≡ length xs) where
+  pub part_restored : Y ≡ strand_bases annotation marks (take n L) → Y ++ drop n L ≡ put (strand_bases annotation marks xs) out
   unfolding put
-  part_restored few same y =
+  part_restored y =
       let here : take n L ≡ xs = front_of xs out e h in
-      let there : Y ≡ put (restored pattern marks xs) xs = rw (here, restore_fits xs marks few same) at y in
-      let long = restored_length (pattern_bases pattern) marks xs (length xs) in
-      let whole : Y ≡ restored pattern marks xs = there ∙ put_whole (restored pattern marks xs) xs long in
-      rw (whole, e, h, drop-append_seam, long)
+      let there : Y ≡ strand_bases annotation marks xs = rw here at y in
+      rw (there, e, h, drop-append_seam, strand_length annotation marks xs)
 
 -- A strand without an annotation.
 pub no_texts : (mode : MethylationMode) (seq mm ml : List ℕ) (s : Strand) → s.annotation ≡ None → TextsAs mode seq s mm ml mm ml (record { mm = 0; ml = 0 })
@@ -89,26 +94,26 @@ told_lengths mode s = go (calls mode s)
 
 -- With one, its tags are made in buffers that have room for any.
 pub some_texts :
-    (mode : MethylationMode) (seq mm ml : List ℕ) (s : Strand) {pattern : ConversionPattern} {mm_now ml_now : List ℕ} {told : Result (Option TagLengths) Refusal}
-    → s.annotation ≡ Some pattern
-    → AsLong (length seq) s
+    (mode : MethylationMode) (seq mm ml : List ℕ) {s : Option MethylationAnnotation} {m : MethylationAnnotation} {mm_now ml_now : List ℕ} {told : Result (Option TagLengths) Refusal}
+    → s ≡ Some m
+    → AsLong (length seq) (strand_in s)
     → (5125 ≤ length mm) × (1024 ≤ length ml)
-    → TaggedAs mode (against seq s pattern) mm ml mm_now ml_now told
-    → TextsAs mode seq s mm ml mm_now ml_now (lengths_of told)
+    → TaggedAs mode (against seq (strand_in (Some m)) m.pattern) mm ml mm_now ml_now told
+    → TextsAs mode seq (strand_in s) mm ml mm_now ml_now (lengths_of told)
 unfolding strand_mm strand_ml
-some_texts mode seq mm ml s {pattern} is long room t =
-    let strand = against seq s pattern in
-    let ev = evident seq s is long in
+some_texts mode seq mm ml {m = m} is long room t =
+    let strand = against seq (strand_in (Some m)) m.pattern in
+    let ev = evident seq (strand_in (Some m)) refl (rw is at long) in
     let text_fits = group.mm_most strand ev.few mode in
     let bytes_fit = group.ml_most strand ev.few mode in
     let fits = tags_fit mode strand mm ml ev (omega (arith, text_fits, room.0, ev.few)) (omega (arith, bytes_fit, room.1, ev.few)) in
     let known = ap lengths_of (rw fits at t.answered) ∙ told_lengths mode strand in
-    record {
-      mm_length = rw is (ap (λ (n : TagLengths). n.mm) known);
-      ml_length = rw is (ap (λ (n : TagLengths). n.ml) known);
-      text = rw is (rw fits at t.mm_text_is);
-      bytes = rw is (rw fits at t.ml_array_is);
-    }
+    rw is (record {
+      mm_length = ap (λ (n : TagLengths). n.mm) known;
+      ml_length = ap (λ (n : TagLengths). n.ml) known;
+      text = rw fits at t.mm_text_is;
+      bytes = rw fits at t.ml_array_is;
+    })
 
 -- For callers: how long the outputs can need to be.
 module _ (mode : MethylationMode) (seq : List ℕ) (few : length seq ≤ 1024) where

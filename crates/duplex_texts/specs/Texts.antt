@@ -1,13 +1,14 @@
 -- The sequence, MM and ML of a duplex record, document 01: first each strand's annotation restores the sequence, then each strand's
 -- texts are taken against it.
 use Rattle.std.specs.Prelude.{None, Some, Option, ℕ, Bool, true, false, cond, List, [], ◌++◌}
-use Rattle.methylation.specs.Arrays.{EvidenceArrays, evidence_arrays, evidence_in}
+use Rattle.methylation.specs.Annotation.{pattern_held, evidence_held, evidence_seen}
+use Rattle.methylation.specs.Arrays.{EvidenceArrays, evidence_arrays}
 use Rattle.methylation.specs.declared.ConversionPattern.{ConversionPattern}
 use Rattle.methylation.specs.declared.ConversionPattern.TheVariants.{CToT, GToA}
+use Rattle.methylation.specs.declared.MethylationAnnotation.{MethylationAnnotation}
 use Rattle.methylation.specs.declared.MethylationMode.{MethylationMode}
 use Rattle.methylation_restore.specs.Restore.{strand_bases}
 use Rattle.mm_ml.specs.Tags.{Annotated, annotated, mm_text, ml_array}
-use Rattle.duplex_texts.specs.declared.StrandSlices.{StrandSlices}
 
 -- A strand's annotation with its evidence. Without an annotation the arrays are not looked at.
 pub record Strand : Type 0 where
@@ -20,9 +21,13 @@ strand annotation marks unconverted converted = record {
   evidence = evidence_arrays marks unconverted converted;
 }
 
--- That of lent slices.
-abbrev pub strand_in : StrandSlices → Strand
-strand_in s = record { annotation = s.annotation; evidence = evidence_in s.evidence }
+-- That of an annotation that is lent, or of none.
+abbrev pub strand_in : Option MethylationAnnotation → Strand
+strand_in s = record { annotation = pattern_held s; evidence = evidence_held s }
+
+-- As far as it is looked at.
+abbrev pub seen_of : Strand → Strand
+seen_of s = record { annotation = s.annotation; evidence = evidence_seen s.annotation s.evidence }
 
 -- The record's sequence: restored by the first strand's annotation, and then by the second's.
 unfoldable pub restored_seq : List ℕ → Option ConversionPattern → List ℕ → Option ConversionPattern → List ℕ → List ℕ

@@ -1,30 +1,24 @@
 // The sequence, MM and ML of a duplex record, from methylation.rs. Uses lists, refusals, methylation, methylation_restore and mm_ml.
 #![tactic(auto)]
 
-ghost use Rattle.std.specs.Prelude.{◌≡◌, true, ◌+◌, ◌≤◌, length};
+ghost use Rattle.std.specs.Prelude.{◌≡◌, ◌+◌, ◌≤◌, length};
 ghost use Rattle.lists.specs.Output.{put};
 ghost use Rattle.refusals.specs.Refusal.{refused};
 ghost use Rattle.refusals.specs.Outcome.{answer};
 ghost use Rattle.duplex_texts.specs.Lent.{texts_out, SameTexts};
-ghost use Rattle.duplex_texts.specs.Texts.{strand_in, restored_seq, second_first, grouped};
+ghost use Rattle.duplex_texts.specs.Texts.{strand_in, duplex_seq, second_first, grouped};
+ghost use Rattle.methylation_restore.specs.Restore.{strand_bases};
 ghost use Rattle.duplex_texts.specs.Outputs.{text_lengths, strand_lengths, long, uneven, given_faults, texts_too_short, DuplexTextsAs};
 ghost use Rattle.duplex_texts.specs.Parts.{AsLong, TextsAs, needed_for};
 
 use lists::{copy, front};
 use methylation::{
-    ConversionPattern, EvidenceLengths, EvidenceSlices, MethylationMode, evidence_too_long,
+    ConversionPattern, EvidenceLengths, MethylationAnnotation, MethylationMode, evidence_too_long,
     evidence_uneven,
 };
-use methylation_restore::{methylation_strand_bases, restore_unconverted_bases};
+use methylation_restore::restore_unconverted_bases;
 use mm_ml::{AnnotatedBases, TagLengths, build_mm_ml_tags};
 use refusals::{MAX_POSITIONS, Refusal, refuse};
-
-// A strand's annotation with its evidence, as lent slices. Without an annotation the slices are not looked at.
-#[derive(Clone, Copy)]
-pub struct StrandSlices<'a> {
-    pub annotation: Option<ConversionPattern>,
-    pub evidence: EvidenceSlices<'a>,
-}
 
 // The outputs for the sequence and the texts. A function that is lent them leaves each slice where it is (specs/Lent.antt).
 #[derive(Drop)]
@@ -46,13 +40,11 @@ pub struct TextLengths {
     pub ml: usize,
 }
 
-impl StrandSlices<'_> {
-    // How long its evidence is, where there is an annotation: without one it is not looked at.
-    pub fn lengths(self) -> Option<EvidenceLengths>
-        ensures { result ≡ strand_lengths (strand_in self.entry) }
-    {
-        self.annotation.and(Some(self.evidence.lengths()))
-    }
+// How long the evidence of a strand's annotation is.
+pub fn lengths_of(s: Option<MethylationAnnotation>) -> Option<EvidenceLengths>
+    ensures { result ≡ strand_lengths (strand_in s.entry) }
+{
+    s.map(|annotation| annotation.evidence.lengths())
 }
 
 impl TextOutputs<'_> {
@@ -84,6 +76,7 @@ fn is_uneven(bases: usize, s: Option<EvidenceLengths>) -> bool
 }
 
 // Refuses a sequence and the evidence of two strands, by their lengths: none of a strand without an annotation.
+// The strands are two operands, here and below: a struct of the bases and both would be taken apart for each one's texts.
 pub fn given_refusal(
     bases: usize,
     a: Option<EvidenceLengths>,
@@ -96,25 +89,37 @@ pub fn given_refusal(
     refuse(is_uneven(bases, a) | is_uneven(bases, b), Refusal::Ragged)
 }
 
-// Writes the sequence, restored by both strands. Neither call is refused here.
-fn restore_both(bases: &[u8], a: StrandSlices<'_>, b: StrandSlices<'_>, seq: &mut [u8])
-    requires room { (length bases.now ≤ 1024) × (length bases.now ≤ length seq.old) }
+// Restores a sequence by a strand's annotation. No call is refused here.
+fn restore_by(s: Option<MethylationAnnotation>, seq: &mut [u8])
+    requires { AsLong (length seq.old) (strand_in s) }
+    ensures { seq.new ≡ strand_bases (strand_in s.entry).annotation (strand_in s.entry).evidence.marks seq.old }
+{
+    if let Some(annotation) = s {
+        let _ = restore_unconverted_bases(seq, annotation.pattern, annotation.evidence.marks);
+    }
+}
+
+// Writes the sequence, restored by both strands.
+fn restore_both(
+    bases: &[u8],
+    a: Option<MethylationAnnotation>,
+    b: Option<MethylationAnnotation>,
+    seq: &mut [u8],
+)
+    requires room { length bases.now ≤ length seq.old }
     requires as_long { AsLong (length bases.now) (strand_in a) }
     requires as_long_2 { AsLong (length bases.now) (strand_in b) }
-    ensures { seq.new ≡ put (restored_seq bases.now a.entry.annotation a.entry.evidence.marks.now b.entry.annotation b.entry.evidence.marks.now) seq.old }
+    ensures { seq.new ≡ put (duplex_seq bases.now (strand_in a.entry) (strand_in b.entry)) seq.old }
 {
-    let _ = methylation_strand_bases(bases, a.annotation, a.evidence.marks, seq);
-    let Some(pattern) = b.annotation else {
-        return;
-    };
-    let n = bases.len();
-    let _ = restore_unconverted_bases(&mut seq[..n], pattern, b.evidence.marks);
+    copy(bases, seq);
+    restore_by(a, &mut seq[..bases.len()]);
+    restore_by(b, &mut seq[..bases.len()]);
 }
 
 // Writes a strand's MM text against the restored sequence, and its ML bytes, to buffers that have room for any.
 fn strand_texts(
     seq: &[u8],
-    s: StrandSlices<'_>,
+    s: Option<MethylationAnnotation>,
     mode: MethylationMode,
     mm: &mut [u8],
     ml: &mut [u8],
@@ -124,14 +129,15 @@ fn strand_texts(
     ensures { TextsAs mode seq.now (strand_in s.entry) mm.old ml.old mm.new ml.new result }
 {
     let none = TagLengths { mm: 0, ml: 0 };
-    let Some(pattern) = s.annotation else {
+    let Some(annotation) = s else {
         return none;
     };
     let strand = AnnotatedBases {
         bases: seq,
-        pattern,
-        evidence: s.evidence,
+        pattern: annotation.pattern,
+        evidence: annotation.evidence,
     };
+    // Not refused here; and where nothing is called there is no tag.
     build_mm_ml_tags(strand, mode, mm, ml)
         .unwrap_or(None)
         .unwrap_or(none)
@@ -161,11 +167,11 @@ fn is_too_short(needed: TextLengths, out: TextLengths) -> bool
 }
 
 // Whether the second strand's group goes first: it alone is of pattern C to T.
-fn is_second_first(a: Option<ConversionPattern>, b: Option<ConversionPattern>) -> bool
-    ensures { result ≡ second_first a b }
+fn is_second_first(a: Option<MethylationAnnotation>, b: Option<MethylationAnnotation>) -> bool
+    ensures { result ≡ second_first (strand_in a.entry).annotation (strand_in b.entry).annotation }
 {
     matches!(
-        (a, b),
+        (a.map(|s| s.pattern), b.map(|s| s.pattern)),
         (Some(ConversionPattern::GToA), Some(ConversionPattern::CToT))
     )
 }
@@ -184,19 +190,19 @@ fn write_groups(second_first: bool, a: &[u8], b: &[u8], out: &mut [u8])
 
 // A duplex record's sequence, MM and ML, from its consensus bases and the annotations of its strands, in strand order. Each
 // strand's annotation restores the sequence first. Then each strand's MM text, and the combined MM and ML with C-to-T groups first.
-// Of an absent annotation no array is looked at, and nothing goes to its output. A text has at most 5 bytes and 5 for each
+// Nothing goes to the output of an absent annotation. A text has at most 5 bytes and 5 for each
 // position, the combined one twice that, and ML 2 for each position. Refuses by 7, 8, 12.
 pub fn duplex_texts(
     bases: &[u8],
-    a: StrandSlices<'_>,
-    b: StrandSlices<'_>,
+    a: Option<MethylationAnnotation>,
+    b: Option<MethylationAnnotation>,
     mode: MethylationMode,
     out: &mut TextOutputs<'_>,
 ) -> Result<TextLengths, Refusal>
     ensures same_references { SameTexts out.old out.new }
     ensures texts { DuplexTextsAs mode bases.now (strand_in a.entry) (strand_in b.entry) (texts_out out.old) (texts_out out.new) result }
 {
-    given_refusal(bases.len(), a.lengths(), b.lengths())?;
+    given_refusal(bases.len(), lengths_of(a), lengths_of(b))?;
     // No heap: arrays of the most that is looked at.
     let mut seq = [0; 1024];
     restore_both(bases, a, b, &mut seq);
@@ -209,7 +215,7 @@ pub fn duplex_texts(
     let of_b = strand_texts(restored, b, mode, &mut b_mm, &mut b_ml);
     let needed = needed_for(bases.len(), of_a, of_b);
     refuse(is_too_short(needed, out.lengths()), Refusal::OutputTooShort)?;
-    let second_first = is_second_first(a.annotation, b.annotation);
+    let second_first = is_second_first(a, b);
     let a_text = front(&a_mm, of_a.mm);
     let b_text = front(&b_mm, of_b.mm);
     let a_bytes = front(&a_ml, of_a.ml);

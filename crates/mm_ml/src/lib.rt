@@ -137,6 +137,7 @@ impl EvidentBases<'_> {
     }
 
     // The group's text: the prefix, the listed skip counts and the semicolon; and the ML bytes.
+    // By hand, not by Display: no heap, and what a `write!` into fixed memory leaves where it fails no clause says.
     fn write_mm_ml(self, mode: MethylationMode, mm: &mut [u8], ml: &mut [u8])
         requires mm_fits { length (all_text (annotated_in self.strand)) ≤ length mm.old }
         requires ml_fits { length (all_calls (annotated_in self.strand)) ≤ length ml.old }
@@ -164,6 +165,8 @@ impl EvidentBases<'_> {
 
 // A strand's MM text and ML bytes against the sequence, whose bases are restored already: how many of each are written, or no tag.
 // MM has at most 5 bytes and 5 for each position, ML one for each position. Refuses by 7, 8, 12.
+// No struct of mode, mm and ml, here and where it is called: who lends mm and ml reads each for itself afterwards, and a struct that lends
+// them would need a clause that each slice stays where it was.
 pub fn build_mm_ml_tags(
     s: AnnotatedBases<'_>,
     mode: MethylationMode,

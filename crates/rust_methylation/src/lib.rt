@@ -14,8 +14,8 @@ ghost use Rattle.duplex_tags.specs.Tags.{count_arrays};
 ghost use Rattle.rust_methylation.specs.Entries.{tags_reply, mm_ml_reply, mm_reply, duplex_tags_reply, RestoredAs, StrandBasesAs, tag_arrays, duplex_arrays, TagsAs, DuplexTagsAs};
 
 use duplex_tags::{KindOutputs, duplex_methylation_tags};
-use duplex_texts::{StrandSlices, TextLengths, TextOutputs};
-use methylation::{ConversionPattern, EvidenceSlices, MethylationMode};
+use duplex_texts::{TextLengths, TextOutputs};
+use methylation::{ConversionPattern, EvidenceSlices, MethylationAnnotation, MethylationMode};
 use methylation_restore::{methylation_strand_bases, restore_unconverted_bases};
 use mm_ml::{AnnotatedBases, TagLengths, build_mm_ml_tags, build_mm_tag_no_ml};
 use refusals::Refusal;
@@ -85,21 +85,7 @@ impl From<Result<Option<usize>, Refusal>> for TagsReply {
     ghost from_gives = { λ text reply. reply ≡ mm_reply text };
 
     fn from(text: Result<Option<usize>, Refusal>) -> TagsReply {
-        match text {
-            Ok(Some(mm)) => TagsReply {
-                refused: 0,
-                tagged: 1,
-                mm,
-                ml: 0,
-            },
-            Ok(None) => TagsReply {
-                refused: 0,
-                tagged: 0,
-                mm: 0,
-                ml: 0,
-            },
-            Err(refusal) => TagsReply::from(refusal),
-        }
+        TagsReply::from(text.map(|tag| tag.map(|mm| TagLengths { mm, ml: 0 })))
     }
 }
 
@@ -177,7 +163,8 @@ pub extern "C" fn gedrashiw_restore_unconverted_bases(
     ensures { RepliedAs (wrong_pattern pattern) (not_counted 13) count_reply (RestoredAs (pattern_of pattern) marks.now)
         consensus_bases.old consensus_bases.new result }
 {
-    // No `?`: a function that answers a Result would have this whole contract once more.
+    // No `?`: its function would have this whole contract once more. A closure was tried (rust_padded): of outputs that it takes along
+    // nothing is known where it is not called.
     let pattern = match ConversionPattern::try_from(pattern) {
         Ok(pattern) => pattern,
         Err(refusal) => return Count::from(refusal),
@@ -196,7 +183,8 @@ pub extern "C" fn gedrashiw_methylation_strand_bases(
     ensures { RepliedAs (wrong_annotation annotation) (not_counted 13) count_reply (StrandBasesAs (annotation_of annotation) bases.now marks.now)
         out.old out.new result }
 {
-    // No `?`: a function that answers a Result would have this whole contract once more.
+    // No `?`: its function would have this whole contract once more. A closure was tried (rust_padded): of outputs that it takes along
+    // nothing is known where it is not called.
     let annotation = match annotation_in(annotation) {
         Ok(annotation) => annotation,
         Err(refusal) => return Count::from(refusal),
@@ -221,7 +209,8 @@ pub extern "C" fn gedrashiw_build_mm_ml_tags(
         (tag_arrays mm.old ml.old) (tag_arrays mm.new ml.new)
         result }
 {
-    // No `?`: a function that answers a Result would have this whole contract once more.
+    // No `?`: its function would have this whole contract once more. A closure was tried (rust_padded): of outputs that it takes along
+    // nothing is known where it is not called.
     let (pattern, mode) = match pattern_and_mode(pattern, mode) {
         Ok(choices) => choices,
         Err(refusal) => return TagsReply::from(refusal),
@@ -229,11 +218,7 @@ pub extern "C" fn gedrashiw_build_mm_ml_tags(
     let strand = AnnotatedBases {
         bases: consensus_bases,
         pattern,
-        evidence: EvidenceSlices {
-            marks,
-            unconverted,
-            converted,
-        },
+        evidence: EvidenceSlices::new(marks, unconverted, converted),
     };
     TagsReply::from(build_mm_ml_tags(strand, mode, mm, ml))
 }
@@ -254,7 +239,8 @@ pub extern "C" fn gedrashiw_build_mm_tag_no_ml(
         mm.old mm.new
         result }
 {
-    // No `?`: a function that answers a Result would have this whole contract once more.
+    // No `?`: its function would have this whole contract once more. A closure was tried (rust_padded): of outputs that it takes along
+    // nothing is known where it is not called.
     let (pattern, mode) = match pattern_and_mode(pattern, mode) {
         Ok(choices) => choices,
         Err(refusal) => return TagsReply::from(refusal),
@@ -262,11 +248,7 @@ pub extern "C" fn gedrashiw_build_mm_tag_no_ml(
     let strand = AnnotatedBases {
         bases: consensus_bases,
         pattern,
-        evidence: EvidenceSlices {
-            marks,
-            unconverted,
-            converted,
-        },
+        evidence: EvidenceSlices::new(marks, unconverted, converted),
     };
     TagsReply::from(build_mm_tag_no_ml(strand, mode, mm))
 }
@@ -308,7 +290,8 @@ pub extern "C" fn gedrashiw_duplex_methylation_tags(
         (count_arrays a_unconverted_out.new a_converted_out.new b_unconverted_out.new b_converted_out.new unconverted_out.new converted_out.new))
         result }
 {
-    // No `?`: a function that answers a Result would have this whole contract once more.
+    // No `?`: its function would have this whole contract once more. A closure was tried (rust_padded): of outputs that it takes along
+    // nothing is known where it is not called.
     let (a_annotation, b_annotation, mode) = match annotations_and_mode(
         a_annotation,
         b_annotation,
@@ -317,22 +300,10 @@ pub extern "C" fn gedrashiw_duplex_methylation_tags(
         Ok(choices) => choices,
         Err(refusal) => return DuplexTagsReply::from(refusal),
     };
-    let a = StrandSlices {
-        annotation: a_annotation,
-        evidence: EvidenceSlices {
-            marks: a_marks,
-            unconverted: a_unconverted,
-            converted: a_converted,
-        },
-    };
-    let b = StrandSlices {
-        annotation: b_annotation,
-        evidence: EvidenceSlices {
-            marks: b_marks,
-            unconverted: b_unconverted,
-            converted: b_converted,
-        },
-    };
+    let a_evidence = EvidenceSlices::new(a_marks, a_unconverted, a_converted);
+    let b_evidence = EvidenceSlices::new(b_marks, b_unconverted, b_converted);
+    let a = MethylationAnnotation::of(a_annotation, a_evidence);
+    let b = MethylationAnnotation::of(b_annotation, b_evidence);
     let mut texts = TextOutputs {
         seq: seq_out,
         a_mm: a_mm_out,

@@ -7,14 +7,16 @@ use Rattle.std.proofs.lemmas.Result.{err_from_is_err_and}
 use Rattle.refusals.specs.Outcome.{answer}
 use Rattle.methylation.specs.Arrays.{EvidenceArrays, evidence_arrays, evidence_in}
 use Rattle.molecule_evidence.specs.Evidence.{marks_of, unconverted_of, converted_of}
+use Rattle.molecule_strand.specs.Strand.{bytes_held}
 use Rattle.duplex_texts.specs.Lent.{texts_out}
 use Rattle.rust_methylation.specs.Entries.{DuplexArrays, duplex_arrays}
-use Rattle.c_tags.specs.Lent.{counts_out}
-use Rattle.c_tags.specs.Parts.{seen}
+use Rattle.duplex_tags.specs.Lent.{counts_out}
+use Rattle.duplex_texts.specs.Texts.{strand_in}
+use Rattle.c_tags.specs.Parts.{strand_seen, counts_in}
 use Rattle.c_tags.proofs.Bytes.{evidence_read}
-use Rattle.c_tags.proofs.Entry.{own, same_test, early, late, all_written, few_places, ready, left_counts}
+use Rattle.c_tags.proofs.Entry.{lent_as, own, same_test, early, late, all_written, few_places, ready, left_counts}
 use Rattle.c_tags.proofs.write_tags.Goals as goal
-use Rattle.c_tags.proofs.write_tags.Goals.{After-counts_refusal, After-front-b_evidence}
+use Rattle.c_tags.proofs.write_tags.Goals.{After-counts_refusal, After-of-2}
 
 -- The first test, as the library's over numbers.
 module _ (c : After-counts_refusal) where
@@ -22,19 +24,25 @@ module _ (c : After-counts_refusal) where
   before = duplex_arrays (texts_out c.args.texts.now) (counts_out c.args.unconverted.now c.args.converted.now)
 
   told : answer {A = Unit {0}} (own c.args.mode c.args.bases.now c.args.a c.args.b before) tt ≡ c.counts_refusal.result
-  told = same_test c.args.mode c.args.bases.now c.args.a c.args.b before c.lengths.ensures c.lengths-2.ensures c.counts.ensures c.counts-2.ensures c.counts_refusal.ensures
+  told = same_test c.args.mode c.args.bases.now c.args.a c.args.b before c.lengths_of.ensures c.lengths_of-2.ensures (c.counts_in.ensures ∙ ap counts_in c.lengths.ensures) (c.counts_in-2.ensures ∙ ap counts_in c.lengths-2.ensures) c.counts_refusal.ensures
 
 -- What is read, all of it, where that test refuses nothing.
-module _ (c : After-front-b_evidence) (few : (length (seen c.args.a) / 9 ≤ 1024) × (length (seen c.args.b) / 9 ≤ 1024)) where
-  a_read : evidence_in c.front-a_evidence.result ≡ evidence_arrays (marks_of (seen c.args.a)) (unconverted_of (seen c.args.a)) (converted_of (seen c.args.a))
+module _ (c : After-of-2) (few : (length (bytes_held c.args.a) / 9 ≤ 1024) × (length (bytes_held c.args.b) / 9 ≤ 1024)) where
+  a_read : evidence_in c.front-a_evidence.result ≡ evidence_arrays (marks_of (bytes_held c.args.a)) (unconverted_of (bytes_held c.args.a)) (converted_of (bytes_held c.args.a))
   a_read =
-      let s = rw c.seen.ensures at c.read_evidence.ensures in
-      evidence_read (seen c.args.a) {e = evidence_in c.front-a_evidence.result} few.0 s.marks s.unconverted s.converted c.places.ensures (search (rules, c.front-a_evidence.ensures))
+      let s = rw c.bytes_of.ensures at c.read_evidence.ensures in
+      evidence_read (bytes_held c.args.a) {e = evidence_in c.front-a_evidence.result} few.0 s.marks s.unconverted s.converted c.places.ensures (search (rules, c.front-a_evidence.ensures))
 
-  b_read : evidence_in c.front-b_evidence.result ≡ evidence_arrays (marks_of (seen c.args.b)) (unconverted_of (seen c.args.b)) (converted_of (seen c.args.b))
+  b_read : evidence_in c.front-b_evidence.result ≡ evidence_arrays (marks_of (bytes_held c.args.b)) (unconverted_of (bytes_held c.args.b)) (converted_of (bytes_held c.args.b))
   b_read =
-      let s = rw c.seen-2.ensures at c.read_evidence-2.ensures in
-      evidence_read (seen c.args.b) {e = evidence_in c.front-b_evidence.result} few.1 s.marks s.unconverted s.converted c.places-2.ensures (search (rules, c.front-b_evidence.ensures))
+      let s = rw c.bytes_of-2.ensures at c.read_evidence-2.ensures in
+      evidence_read (bytes_held c.args.b) {e = evidence_in c.front-b_evidence.result} few.1 s.marks s.unconverted s.converted c.places-2.ensures (search (rules, c.front-b_evidence.ensures))
+
+  a_lent : strand_in c.of.result ≡ strand_seen c.args.a
+  a_lent = lent_as c.args.a c.of.result c.pattern_in.ensures c.of.ensures.pattern c.of.ensures.evidence a_read
+
+  b_lent : strand_in c.of-2.result ≡ strand_seen c.args.b
+  b_lent = lent_as c.args.b c.of-2.result c.pattern_in-2.ensures c.of-2.ensures.pattern c.of-2.ensures.evidence b_read
 
 pub returns-in_err-counts_refusal-clause-tagged : goal.returns-in_err-counts_refusal-clause-tagged
 returns-in_err-counts_refusal-clause-tagged c =
@@ -48,10 +56,10 @@ returns-in_err-lengths-clause-tagged c =
     let test = here.After-counts_refusal in
     let passed = told test ∙ c.in_ok-counts_refusal.was in
     let few = few_places c.args.mode c.args.bases.now c.args.a c.args.b (before test) passed in
-    let read = here.After-front-b_evidence in
+    let read = here.After-of-2 in
     let p = err_from_is_err_and c.from_residual-in_err-lengths.result c.from_residual-in_err-lengths.ensures.1 in
     let texts = rw c.in_err-lengths.was at c.duplex_texts.ensures.texts in
-    rw (p.1, p.2) (late c.args.mode c.args.bases.now c.args.a c.args.b (before test) passed (rw (a_read read few, b_read read few) at texts))
+    rw (p.1, p.2) (late c.args.mode c.args.bases.now c.args.a c.args.b (before test) passed (rw (a_lent read few, b_lent read few) at texts))
 
 pub write_held-requires : goal.write_held-requires
 write_held-requires c =
@@ -59,7 +67,7 @@ write_held-requires c =
     let test = here.After-counts_refusal in
     let passed = told test ∙ c.in_ok-counts_refusal.was in
     let few = few_places c.args.mode c.args.bases.now c.args.a c.args.b (before test) passed in
-    (ready c.args.mode c.args.bases.now c.args.a c.args.b (before test) passed).a_unconverted (ap (λ (e : EvidenceArrays). e.unconverted) (a_read here.After-front-b_evidence few))
+    (ready c.args.mode c.args.bases.now c.args.a c.args.b (before test) passed).a_unconverted (ap (λ (e : EvidenceArrays). e.unconverted) (a_read here.After-of-2 few))
 
 pub write_held-requires-2 : goal.write_held-requires-2
 write_held-requires-2 c =
@@ -67,7 +75,7 @@ write_held-requires-2 c =
     let test = here.After-counts_refusal in
     let passed = told test ∙ c.in_ok-counts_refusal.was in
     let few = few_places c.args.mode c.args.bases.now c.args.a c.args.b (before test) passed in
-    (ready c.args.mode c.args.bases.now c.args.a c.args.b (before test) passed).a_converted (ap (λ (e : EvidenceArrays). e.converted) (a_read here.After-front-b_evidence few))
+    (ready c.args.mode c.args.bases.now c.args.a c.args.b (before test) passed).a_converted (ap (λ (e : EvidenceArrays). e.converted) (a_read here.After-of-2 few))
 
 pub write_held-requires-3 : goal.write_held-requires-3
 write_held-requires-3 c =
@@ -75,7 +83,7 @@ write_held-requires-3 c =
     let test = here.After-counts_refusal in
     let passed = told test ∙ c.in_ok-counts_refusal.was in
     let few = few_places c.args.mode c.args.bases.now c.args.a c.args.b (before test) passed in
-    (ready c.args.mode c.args.bases.now c.args.a c.args.b (before test) passed).b_unconverted (ap (λ (e : EvidenceArrays). e.unconverted) (b_read here.After-front-b_evidence few))
+    (ready c.args.mode c.args.bases.now c.args.a c.args.b (before test) passed).b_unconverted (ap (λ (e : EvidenceArrays). e.unconverted) (b_read here.After-of-2 few))
 
 pub write_held-requires-4 : goal.write_held-requires-4
 write_held-requires-4 c =
@@ -83,17 +91,19 @@ write_held-requires-4 c =
     let test = here.After-counts_refusal in
     let passed = told test ∙ c.in_ok-counts_refusal.was in
     let few = few_places c.args.mode c.args.bases.now c.args.a c.args.b (before test) passed in
-    (ready c.args.mode c.args.bases.now c.args.a c.args.b (before test) passed).b_converted (ap (λ (e : EvidenceArrays). e.converted) (b_read here.After-front-b_evidence few))
+    (ready c.args.mode c.args.bases.now c.args.a c.args.b (before test) passed).b_converted (ap (λ (e : EvidenceArrays). e.converted) (b_read here.After-of-2 few))
 
 pub write_summed-requires-clause-fits : goal.write_summed-requires-clause-fits
 write_summed-requires-clause-fits c =
     let test = (goal.at.write_summed-requires-clause-fits c).After-counts_refusal in
-    (ready c.args.mode c.args.bases.now c.args.a c.args.b (before test) (told test ∙ c.in_ok-counts_refusal.was)).unconverted
+    let passed = told test ∙ c.in_ok-counts_refusal.was in
+    (ready c.args.mode c.args.bases.now c.args.a c.args.b (before test) passed).unconverted
 
 pub write_summed-requires-2-clause-fits : goal.write_summed-requires-2-clause-fits
 write_summed-requires-2-clause-fits c =
     let test = (goal.at.write_summed-requires-2-clause-fits c).After-counts_refusal in
-    (ready c.args.mode c.args.bases.now c.args.a c.args.b (before test) (told test ∙ c.in_ok-counts_refusal.was)).converted
+    let passed = told test ∙ c.in_ok-counts_refusal.was in
+    (ready c.args.mode c.args.bases.now c.args.a c.args.b (before test) passed).converted
 
 pub returns-clause-tagged : goal.returns-clause-tagged
 returns-clause-tagged c =
@@ -101,8 +111,8 @@ returns-clause-tagged c =
     let test = here.After-counts_refusal in
     let passed = told test ∙ c.in_ok-counts_refusal.was in
     let few = few_places c.args.mode c.args.bases.now c.args.a c.args.b (before test) passed in
-    let a_is = a_read here.After-front-b_evidence few in
-    let b_is = b_read here.After-front-b_evidence few in
+    let a_is = a_read here.After-of-2 few in
+    let b_is = b_read here.After-of-2 few in
     let texts = rw c.in_ok-lengths.was at c.duplex_texts.ensures.texts in
     let left = left_counts c.args.mode c.args.bases.now c.args.a c.args.b (before test) _ (ap (λ (e : EvidenceArrays). e.unconverted) a_is) (ap (λ (e : EvidenceArrays). e.converted) a_is) (ap (λ (e : EvidenceArrays). e.unconverted) b_is) (ap (λ (e : EvidenceArrays). e.converted) b_is) c.write_held.ensures c.write_held-2.ensures c.write_held-3.ensures c.write_held-4.ensures c.write_summed.ensures c.write_summed-2.ensures in
-    all_written c.args.mode c.args.bases.now c.args.a c.args.b (before test) passed (rw (a_is, b_is) at texts) left
+    all_written c.args.mode c.args.bases.now c.args.a c.args.b (before test) passed (rw (a_lent here.After-of-2 few, b_lent here.After-of-2 few) at texts) left

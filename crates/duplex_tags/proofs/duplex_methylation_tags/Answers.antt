@@ -17,7 +17,7 @@ use Rattle.duplex_tags.specs.Tags.{CountArrays, kind_counts}
 use Rattle.duplex_tags.specs.Outputs.{RoomKind, kind_lengths}
 use Rattle.duplex_tags.specs.Parts.{needed_counts}
 use Rattle.duplex_tags.specs.declared.KindLengths.{KindLengths}
-use Rattle.duplex_tags.proofs.Counts.{countable}
+use Rattle.duplex_tags.proofs.Counts.{unconverted_seen, converted_seen, countable}
 use Rattle.duplex_tags.proofs.Refused.{by_own, refused_first, passed_first, refused_texts, all_written, enough_room}
 use Rattle.duplex_tags.proofs.duplex_methylation_tags.Goals as goal
 use Rattle.duplex_tags.proofs.duplex_methylation_tags.Goals.{In_ok-counts_refusal}
@@ -26,7 +26,7 @@ pub returns-in_err-counts_refusal-clause-tagged : goal.returns-in_err-counts_ref
 returns-in_err-counts_refusal-clause-tagged c =
     let texts = texts_out c.args.texts.now in
     let counts = counts_out c.args.unconverted.now c.args.converted.now in
-    let told = rw (c.lengths.ensures, c.lengths-2.ensures, c.lengths-3.ensures, c.lengths-4.ensures) at (sym c.counts_refusal.ensures) in
+    let told = rw (c.lengths_of.ensures, c.lengths_of-2.ensures, c.lengths.ensures, c.lengths-2.ensures) at (sym c.counts_refusal.ensures) in
     let p = err_from_is_err_and c.from_residual.result c.from_residual.ensures.1 in
     rw (p.1, p.2) (refused_first c.args.mode c.args.bases.now (strand_in c.args.a) (strand_in c.args.b) texts counts (refused_by _ _ (told ∙ c.in_err-counts_refusal.was)))
 
@@ -52,7 +52,7 @@ module _ (c : In_ok-counts_refusal) where
 
   passed : by_own c.args.mode bases a b texts counts ≡ None
   passed =
-      let told = rw (c.lengths.ensures, c.lengths-2.ensures, c.lengths-3.ensures, c.lengths-4.ensures) at (sym c.counts_refusal.ensures) in
+      let told = rw (c.lengths_of.ensures, c.lengths_of-2.ensures, c.lengths.ensures, c.lengths-2.ensures) at (sym c.counts_refusal.ensures) in
       (passed_by _ _ (told ∙ c.in_ok-counts_refusal.was)).0
 
   long : AsLong (length bases) a × AsLong (length bases) b
@@ -69,27 +69,22 @@ returns-in_err-lengths-clause-tagged c =
 pub write_counts-requires-clause-of_a : goal.write_counts-requires-clause-of_a
 write_counts-requires-clause-of_a c =
     let here = (goal.at.write_counts-requires-clause-of_a c).In_ok-counts_refusal in
-    countable _ _ _ (long here).0.unconverted (long here).0.few (a here).evidence c.counts_of.ensures (room here).0.a
+    countable _ _ _ (long here).0.unconverted (long here).0.few (a here).evidence (unconverted_seen c.args.a c.evidence_of-a_counts.ensures) (room here).0.a
 
 pub write_counts-requires-clause-of_b : goal.write_counts-requires-clause-of_b
 write_counts-requires-clause-of_b c =
     let here = (goal.at.write_counts-requires-clause-of_b c).In_ok-counts_refusal in
-    countable _ _ _ (long here).1.unconverted (long here).1.few (b here).evidence c.counts_of-2.ensures (room here).0.b
-
-pub write_counts-requires-clause-of_both : goal.write_counts-requires-clause-of_both
-write_counts-requires-clause-of_both c =
-    let here = (goal.at.write_counts-requires-clause-of_both c).In_ok-counts_refusal in
-    record { few = (long here).0.few; room = (room here).0.both }
+    countable _ _ _ (long here).1.unconverted (long here).1.few (b here).evidence (unconverted_seen c.args.b c.evidence_of-b_counts.ensures) (room here).0.b
 
 pub write_counts-requires-2-clause-of_a : goal.write_counts-requires-2-clause-of_a
 write_counts-requires-2-clause-of_a c =
     let here = (goal.at.write_counts-requires-2-clause-of_a c).In_ok-counts_refusal in
-    countable _ _ _ (long here).0.converted (long here).0.few (a here).evidence c.counts_of-3.ensures (room here).1.a
+    countable _ _ _ (long here).0.converted (long here).0.few (a here).evidence (converted_seen c.args.a c.evidence_of-a_counts.ensures) (room here).1.a
 
 pub write_counts-requires-2-clause-of_b : goal.write_counts-requires-2-clause-of_b
 write_counts-requires-2-clause-of_b c =
     let here = (goal.at.write_counts-requires-2-clause-of_b c).In_ok-counts_refusal in
-    countable _ _ _ (long here).1.converted (long here).1.few (b here).evidence c.counts_of-4.ensures (room here).1.b
+    countable _ _ _ (long here).1.converted (long here).1.few (b here).evidence (converted_seen c.args.b c.evidence_of-b_counts.ensures) (room here).1.b
 
 pub write_counts-requires-2-clause-of_both : goal.write_counts-requires-2-clause-of_both
 write_counts-requires-2-clause-of_both c =
@@ -99,6 +94,6 @@ write_counts-requires-2-clause-of_both c =
 pub returns-clause-tagged : goal.returns-clause-tagged
 unfolding kind_counts
 returns-clause-tagged c =
-    let for_unconverted = rw (c.counts_of.ensures, c.counts_of-2.ensures) at c.write_counts.ensures.written in
-    let for_converted = rw (c.counts_of-3.ensures, c.counts_of-4.ensures) at c.write_counts-2.ensures.written in
+    let for_unconverted = rw (unconverted_seen c.args.a c.evidence_of-a_counts.ensures, unconverted_seen c.args.b c.evidence_of-b_counts.ensures) at c.write_counts.ensures.written in
+    let for_converted = rw (converted_seen c.args.a c.evidence_of-a_counts.ensures, converted_seen c.args.b c.evidence_of-b_counts.ensures) at c.write_counts-2.ensures.written in
     all_written _ _ _ _ _ _ (passed (goal.at.returns-clause-tagged c).In_ok-counts_refusal) (rw c.in_ok-lengths.was at c.duplex_texts.ensures.texts) (record { unconverted = for_unconverted; converted = for_converted })

@@ -14,14 +14,14 @@ use Rattle.duplex_texts.specs.Texts.{Strand, TextArrays, strand_in, duplex_seq}
 use Rattle.duplex_texts.specs.Outputs.{RoomTexts, given_of, text_lengths, texts_too_short}
 use Rattle.duplex_texts.specs.Parts.{AsLong, needed_for}
 use Rattle.duplex_texts.proofs.Refused.{not_met, is_met, as_long, refused_given, refused_room, all_written, enough_room}
-use Rattle.duplex_texts.proofs.Made.{made, long_against, texts_fit, bytes_fit, few_bytes, needed, all_put}
+use Rattle.duplex_texts.proofs.Made.{made, long_against, few_bytes, needed, all_put}
 use Rattle.duplex_texts.proofs.duplex_texts.Goals as goal
 use Rattle.duplex_texts.proofs.duplex_texts.Goals.{In_ok-given_refusal, After-front-restored, In_ok-refuse}
 
 pub returns-in_err-given_refusal-clause-texts : goal.returns-in_err-given_refusal-clause-texts
 returns-in_err-given_refusal-clause-texts c =
     let p = err_from_is_err_and c.from_residual.result c.from_residual.ensures.1 in
-    let told = rw (c.lengths.ensures, c.lengths-2.ensures) at (sym c.given_refusal.ensures) in
+    let told = rw (c.lengths_of.ensures, c.lengths_of-2.ensures) at (sym c.given_refusal.ensures) in
     rw (p.1, p.2) (refused_given _ _ _ _ _ (refused_by _ _ (told ∙ c.in_err-given_refusal.was)))
 
 -- Where the first test refuses nothing: how long the evidence is.
@@ -37,7 +37,7 @@ module _ (c : In_ok-given_refusal) where
 
   passed : refused (given_of bases a b) ≡ None
   passed =
-      let told = rw (c.lengths.ensures, c.lengths-2.ensures) at (sym c.given_refusal.ensures) in
+      let told = rw (c.lengths_of.ensures, c.lengths_of-2.ensures) at (sym c.given_refusal.ensures) in
       (passed_by _ _ (told ∙ c.in_ok-given_refusal.was)).0
 
   long : AsLong (length bases) a × AsLong (length bases) b
@@ -53,7 +53,7 @@ module _ (c : In_ok-refuse) where
   outputs = texts_out c.args.out.now
 
   long_enough : texts_too_short c.needed_for-needed.result (text_lengths outputs) ≡ false
-  long_enough = sym (rw c.lengths-3.ensures at c.is_too_short.ensures) ∙ not_met _ (sym c.refuse.ensures ∙ c.in_ok-refuse.was)
+  long_enough = sym (rw c.lengths.ensures at c.is_too_short.ensures) ∙ not_met _ (sym c.refuse.ensures ∙ c.in_ok-refuse.was)
 
   room : RoomTexts (needed_for (length c.args.bases.now) c.strand_texts-of_a.result c.strand_texts-of_b.result) (text_lengths outputs)
   room = rw c.needed_for-needed.ensures at (enough_room _ (text_lengths outputs) long_enough)
@@ -89,15 +89,7 @@ returns-in_err-refuse-clause-texts c =
     let lengths = c.needed_for-needed.ensures ∙ needed _ _ _ _ of_a of_b in
     let p = err_from_is_err_and c.from_residual-in_err-refuse.result c.from_residual-in_err-refuse.ensures.1 in
     let (short, row) = is_met _ (sym c.refuse.ensures ∙ c.in_err-refuse.was) in
-    rw (p.1, p.2, row) (refused_room _ _ _ _ (texts_out c.args.out.now) (passed here.In_ok-given_refusal) lengths (sym (rw c.lengths-3.ensures at c.is_too_short.ensures) ∙ short))
-
-pub write_groups-requires : goal.write_groups-requires
-write_groups-requires c =
-    texts_fit c.strand_texts-of_a.ensures c.strand_texts-of_b.ensures c.front-a_text.ensures c.front-b_text.ensures (room (goal.at.write_groups-requires c).In_ok-refuse).mm
-
-pub write_groups-requires-2 : goal.write_groups-requires-2
-write_groups-requires-2 c =
-    bytes_fit c.strand_texts-of_a.ensures c.strand_texts-of_b.ensures c.front-a_bytes.ensures c.front-b_bytes.ensures (room (goal.at.write_groups-requires-2 c).In_ok-refuse).ml
+    rw (p.1, p.2, row) (refused_room _ _ _ _ (texts_out c.args.out.now) (passed here.In_ok-given_refusal) lengths (sym (rw c.lengths.ensures at c.is_too_short.ensures) ∙ short))
 
 pub returns-clause-texts : goal.returns-clause-texts
 returns-clause-texts c =

@@ -1,16 +1,10 @@
 -- `mm_ml::build_mm_tag_no_ml` meets its contract: the other call's, without the ML bytes. Assumes nothing.
-use mathlib.Core.Path.{◌≡◌}
 use native.Mathlib.Omega.{arith}
 use Rattle.std.proofs.lemmas.Result.{err_from_is_err_and}
-use Rattle.mm_ml.proofs.Refused.{mm_in, alone}
+use Rattle.mm_ml.proofs.Refused.{alone}
 use Rattle.mm_ml.proofs.build_mm_tag_no_ml.Goals as goal
 
 pub returns-in_err-tags : goal.returns-in_err-tags
 returns-in_err-tags c =
     let p = err_from_is_err_and c.from_residual.result c.from_residual.ensures.1 in
     rw (p.1, p.2) (rw c.in_err-tags.was at (alone _ _ _ _ (omega arith) c.build_mm_ml_tags.ensures))
-
-pub returns : goal.returns
-returns c =
-    let told : c.map.result ≡ mm_in c.in_ok-tags.tags = grind arith in
-    rw told (rw c.in_ok-tags.was at (alone _ _ _ _ (omega arith) c.build_mm_ml_tags.ensures))
