@@ -42,6 +42,7 @@ fn depths_of<'a>(s: Option<EncodedStrand<'a>>) -> &'a [u8]
 }
 
 // The kind of the record that two strands make, for which of their numbers the depths alone are read. Refuses by 13, 7, 8.
+// The strands are two operands, here and below: a struct of both would be taken apart for each one's numbers.
 fn kind_by(
     a: Option<EncodedStrand>,
     b: Option<EncodedStrand>,
@@ -72,19 +73,13 @@ fn mark_at(evidence: &[u8], position: usize) -> u8
 fn shown_at(s: Option<EncodedStrand>, position: usize) -> Shown
     ensures { result ≡ shown_at (strand_of (encoded_in s.entry)) position }
 {
-    let nothing = Shown {
-        annotation: None,
-        base: 0,
-        qual: 0,
-        mark: 0,
-    };
     s.map_or(
-        nothing,
+        Shown::default(),
         |s| Shown {
-            annotation: s.annotation,
+            annotation: s.annotation(),
             base: get_or(s.bases, position, 0),
             qual: get_or(s.quals, position, 0),
-            mark: mark_at(s.evidence, position),
+            mark: mark_at(s.evidence(), position),
         },
     )
 }
@@ -143,23 +138,9 @@ pub extern "C" fn gedrashiw_no_call_reason(
         (strand_given b_present b_annotated b_pattern b_bases.now b_quals.now b_depths.now b_errors.now b_evidence.now)
         position) }
 {
-    let a = EncodedStrand {
-        annotation: None,
-        bases: a_bases,
-        quals: a_quals,
-        depths: a_depths,
-        errors: a_errors,
-        evidence: a_evidence,
-    };
-    let b = EncodedStrand {
-        annotation: None,
-        bases: b_bases,
-        quals: b_quals,
-        depths: b_depths,
-        errors: b_errors,
-        evidence: b_evidence,
-    };
-    let a = strand_told(a_present, a_annotated, a_pattern, a);
-    let b = strand_told(b_present, b_annotated, b_pattern, b);
+    let a = EncodedStrand::new(a_bases, a_quals, a_depths, a_errors);
+    let b = EncodedStrand::new(b_bases, b_quals, b_depths, b_errors);
+    let a = strand_told(a_present, a_annotated, a_pattern, a, a_evidence);
+    let b = strand_told(b_present, b_annotated, b_pattern, b, b_evidence);
     Reason::from(reason_by(a, b, position))
 }

@@ -29,8 +29,8 @@ reason_in (Some (Ab n)) a b i = within n SingleStrand i
 reason_in (Some (Ba n)) a b i = within n SingleStrand i
 reason_in (Some (Both n)) a b i = within n (reason_at a b) i
 
--- The same where the record may be refused.
-abbrev pub reason_told : Result (Option DuplexConsensus) Refusal → Shown → Shown → ℕ → Result NoCallReason Refusal
+-- The same where the record may be refused, by anything.
+abbrev pub reason_told : {E : Type 0} → Result (Option DuplexConsensus) E → Shown → Shown → ℕ → Result NoCallReason E
 reason_told (Err refusal) a b i = Err refusal
 reason_told (Ok made) a b i = Ok (reason_in made a b i)
 

@@ -16,30 +16,31 @@ use methylation::ConversionPattern;
 use refusals::Refusal;
 use vanilla_caller::VanillaConsensusRead;
 
-// What is said of a position.
+// What is said of a position, with the number that stands for it where it is answered by one.
 #[derive(Clone, Copy, Debug, PartialEq, Eq)]
 pub enum NoCallReason {
     // Past the record, or there is none.
-    Outside,
+    Outside = 1,
     // Within a record of one strand, which shows what that strand shows.
-    SingleStrand,
+    SingleStrand = 2,
     // Two strands, and the record shows a base other than N.
-    Called,
+    Called = 3,
     // Two strands, and the record shows N: A alone shows N, or B alone, or both.
-    ANoCall,
-    BNoCall,
-    BothNoCall,
+    ANoCall = 4,
+    BNoCall = 5,
+    BothNoCall = 6,
     // The bases differ without a methylation call, at equal qualities or at a difference of 1 or 2.
-    EqualQualities,
-    CloseQualities,
+    EqualQualities = 7,
+    CloseQualities = 8,
     // The qualities are added, and the sum is at most 2.
-    LowSum,
+    LowSum = 9,
     // The quality of the strand that confirms a methylation call counts alone, and is at most 2.
-    LowConfirming,
+    LowConfirming = 10,
 }
 
-// What a strand shows at a position, and its annotation.
-#[derive(Clone, Copy, Debug, PartialEq, Eq)]
+// What a strand shows at a position, and its annotation; by default nothing. The functions below take one of A and one of B: no struct of
+// the two, since a call is asked both ways round, carries_call(a, b) and carries_call(b, a).
+#[derive(Clone, Copy, Debug, Default, PartialEq, Eq)]
 pub struct Shown {
     pub annotation: Option<ConversionPattern>,
     pub base: u8,
@@ -48,6 +49,8 @@ pub struct Shown {
 }
 
 // Whether a strand is the informative one of a methylation call that the other confirms.
+// Not by duplex_call's test of a site, where A and B have their places: here a strand and the other are asked both ways round, in document
+// 02's words, and reason_claims proves that both tests agree.
 #[tactic(auto, unfolding(duplex_molecule::specs::Molecule::ct_input, crate::specs::Reason::called_by))]
 fn carries_call(s: Shown, other: Shown) -> bool
     ensures { result ≡ carries s other }
@@ -110,7 +113,7 @@ fn does_sum_count(a: Shown, b: Shown) -> bool
 fn is_low_sum(a: Shown, b: Shown) -> bool
     ensures { result ≡ holds NoCallReason.LowSum a b }
 {
-    does_sum_count(a, b) & (a.qual as u16 + b.qual as u16 <= 2)
+    does_sum_count(a, b) & (u16::from(a.qual) + u16::from(b.qual) <= 2)
 }
 
 #[tactic(auto, unfolding(crate::specs::Reason::holds))]
@@ -156,23 +159,18 @@ pub fn reason_at(a: Shown, b: Shown) -> NoCallReason
     reason_by_quality(a, b)
 }
 
-// What a strand that may be absent shows at a position; zeros past its end.
+// What a strand that may be absent shows at a position; zeros past its end. Of its slices bases, quals and marks are looked at: the others
+// may be empty.
 pub fn shown_at(s: Option<VanillaConsensusRead>, position: usize) -> Shown
     ensures { result ≡ shown_at (given_of s.entry) position }
 {
-    let nothing = Shown {
-        annotation: None,
-        base: 0,
-        qual: 0,
-        mark: 0,
-    };
     s.map_or(
-        nothing,
+        Shown::default(),
         |s| Shown {
-            annotation: s.annotation,
+            annotation: s.annotation(),
             base: get_or(s.bases, position, 0),
             qual: get_or(s.quals, position, 0),
-            mark: get_or(s.evidence.marks, position, 0),
+            mark: get_or(s.evidence().marks, position, 0),
         },
     )
 }
@@ -188,13 +186,14 @@ fn within(n: usize, reason: NoCallReason, position: usize) -> NoCallReason
     }
 }
 
-// What is said of a position of a record of this kind, or where there is none, whose strands show this there; a refusal is handed on.
-pub fn reason_in(
-    made: Result<Option<DuplexConsensus>, Refusal>,
+// What is said of a position of a record of this kind, or where there is none, whose strands show this there; a refusal of any type is
+// handed on.
+pub fn reason_in<E>(
+    made: Result<Option<DuplexConsensus>, E>,
     a: Shown,
     b: Shown,
     position: usize,
-) -> Result<NoCallReason, Refusal>
+) -> Result<NoCallReason, E>
     ensures { result ≡ reason_told made a b position }
 {
     let reason = match made? {

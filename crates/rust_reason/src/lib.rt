@@ -30,18 +30,7 @@ pub struct Reason {
 fn reason_number(reason: NoCallReason) -> u8
     ensures { result ≡ reason_number reason }
 {
-    match reason {
-        NoCallReason::Outside => 1,
-        NoCallReason::SingleStrand => 2,
-        NoCallReason::Called => 3,
-        NoCallReason::ANoCall => 4,
-        NoCallReason::BNoCall => 5,
-        NoCallReason::BothNoCall => 6,
-        NoCallReason::EqualQualities => 7,
-        NoCallReason::CloseQualities => 8,
-        NoCallReason::LowSum => 9,
-        NoCallReason::LowConfirming => 10,
-    }
+    reason as u8
 }
 
 // The answer as numbers.
@@ -75,7 +64,6 @@ fn reason_between(
 
 // Why a position of the record that two strands make shows N. Present: 0 is no, any other number yes; an annotation: 0 is none, 1 C to T,
 // 2 G to A, and is not looked at of a strand that is not present. Refuses by 13, then 7, 8, whether or not there is a record.
-#[tactic(auto, using(crate::proofs::Entry::between))]
 #[unsafe(no_mangle)]
 pub extern "C" fn gedrashiw_no_call_reason_typed(
     a_present: u8,
@@ -104,31 +92,11 @@ pub extern "C" fn gedrashiw_no_call_reason_typed(
         (strand (yes b_present) (annotation_of b_annotation) (arrays b_bases.now b_quals.now b_depths.now b_errors.now b_marks.now b_unconverted.now b_converted.now))
         position) }
 {
-    let a = VanillaConsensusRead {
-        bases: a_bases,
-        quals: a_quals,
-        depths: a_depths,
-        errors: a_errors,
-        annotation: None,
-        evidence: EvidenceSlices {
-            marks: a_marks,
-            unconverted: a_unconverted,
-            converted: a_converted,
-        },
-    };
-    let b = VanillaConsensusRead {
-        bases: b_bases,
-        quals: b_quals,
-        depths: b_depths,
-        errors: b_errors,
-        annotation: None,
-        evidence: EvidenceSlices {
-            marks: b_marks,
-            unconverted: b_unconverted,
-            converted: b_converted,
-        },
-    };
-    let a = strand_in(a_present, a_annotation, a);
-    let b = strand_in(b_present, b_annotation, b);
+    let a = VanillaConsensusRead::new(a_bases, a_quals, a_depths, a_errors);
+    let a_evidence = EvidenceSlices::new(a_marks, a_unconverted, a_converted);
+    let b = VanillaConsensusRead::new(b_bases, b_quals, b_depths, b_errors);
+    let b_evidence = EvidenceSlices::new(b_marks, b_unconverted, b_converted);
+    let a = strand_in(a_present, a_annotation, a, a_evidence);
+    let b = strand_in(b_present, b_annotation, b, b_evidence);
     Reason::from(reason_between(a, b, position))
 }
