@@ -16,6 +16,7 @@ use Rattle.lists.proofs.Table.{length_tabulate}
 use Rattle.refusals.specs.declared.Refusal.{Refusal}
 use Rattle.refusals.specs.declared.Refusal.TheVariants.{Broken, TooLong, Ragged, TooManyReads, PartOutside, OutputTooShort}
 use Rattle.refusals.specs.Refusal.{◌if◌, too_many, refused}
+use Rattle.refusals.specs.Outcome.{answer}
 use Rattle.refusals.proofs.Outcome.{refused_by, passed_by}
 use Rattle.methylation.specs.Arrays.{EvidenceArrays, evidence_arrays, evidence_fronts, evidence_places, PutsEvidence}
 use Rattle.methylation.specs.Methylation.{is_annotated}
@@ -31,23 +32,18 @@ use Rattle.duplex_record.specs.Record.{record_arrays, outputs_short}
 use Rattle.molecule_reads.specs.Run.{reads_of}
 use Rattle.molecule_strand.specs.Strand.{StrandBytes, strand_bytes, strand_of}
 use Rattle.molecule_consensus.specs.Bytes.{seen, plain, broken, bytes_refused, inputs_refused, bytes_record, BytesAs}
+use Rattle.molecule_consensus.specs.Molecule.{zero_buffers}
 use Rattle.molecule_consensus.proofs.Ample.{zeros_ample, inputs_alone}
-use Rattle.c_record.specs.Outputs.{RecordBytes, as_arrays, written_of, short_for, outputs_refused, fronts, WrittenAs}
+use Rattle.c_record.specs.Outputs.{RecordBytes, as_arrays, written_of, short_for, outputs_refused, fronts, AnsweredAs, WrittenAs}
 use Rattle.c_record.specs.declared.Written.{Written}
 use Rattle.c_consensus.specs.Consensus.{ConsensusBytesAs}
 use Rattle.methylation.specs.declared.ConversionPattern.{ConversionPattern}
 
--- The arrays between the calls.
-abbrev pub zeros : RecordArrays
-zeros =
-    record_of (replicate 1024 0) (replicate 1024 0) (replicate 1024 0) (replicate 1024 0) (replicate 1024 0) (replicate 1024 0) (replicate 1024 0) (replicate 1024 0)
-    (replicate 1024 0)
-
--- And where neither strand is annotated.
+-- The arrays between the calls where neither strand is annotated.
 abbrev pub plain_zeros : RecordArrays
 plain_zeros = record_of (replicate 1024 0) (replicate 1024 0) (replicate 1024 0) [] [] [] [] [] []
 
-plain_short : (a b : Strand) (k : Option DuplexConsensus) → a.annotation ≡ None → b.annotation ≡ None → outputs_short a b plain_zeros k ≡ outputs_short a b zeros k
+plain_short : (a b : Strand) (k : Option DuplexConsensus) → a.annotation ≡ None → b.annotation ≡ None → outputs_short a b plain_zeros k ≡ outputs_short a b zero_buffers k
 plain_short a b None e f = refl
 plain_short a b (Some (Ab n)) e f = rw e
 plain_short a b (Some (Ba n)) e f = rw f
@@ -68,7 +64,7 @@ plain_annotation s = refl
 pub plain_alone : (a b : StrandBytes) (listed : Bool) (run : List ℕ) → a.annotation ≡ None → b.annotation ≡ None → bytes_refused a b listed run plain_zeros ≡ inputs_refused a b listed run
 plain_alone a b listed run e f =
     ap (λ (short : Bool). refused ((Broken if broken a b listed run) ∷ (strand_faults (strand_of a) (strand_of b) listed (length (reads_of run)) false ++ (OutputTooShort if short) ∷ []))) (plain_short (strand_of a) (strand_of b) (kind_of (strand_of a) (strand_of b)) (plain_strand a e) (plain_strand b f))
-    ∙ inputs_alone a b listed run zeros zeros_ample
+    ∙ inputs_alone a b listed run zero_buffers zeros_ample
 
 pub plain_seen : (s : StrandBytes) → is_annotated s.annotation ≡ false → seen s ≡ seen (plain s)
 unfolding only_if
@@ -189,6 +185,14 @@ puts l = record {
   a = record { marks = l.a.marks; unconverted = l.a.unconverted; converted = l.a.converted };
   b = record { marks = l.b.marks; unconverted = l.b.unconverted; converted = l.b.converted };
 }
+
+-- A row is its own conversion.
+abbrev itself : Refusal → Refusal → Type 0
+itself row refusal = refusal ≡ row
+
+as_it_is : {A : Type 0} (row : Option Refusal) (x : A) {r : Result A Refusal} → AnsweredAs itself row x r → r ≡ answer row x
+as_it_is None x e = e
+as_it_is (Some row) x (refusal, is, e) = rw is at e
 
 -- Where nothing is written, nothing is too short.
 none_short : (out : RecordArrays) → record_too_short 0 (record_lengths None None out) ≡ false
@@ -312,10 +316,10 @@ module _ (a b : StrandBytes) (listed : Bool) (run : List ℕ) where
       written : fronts w now ≡ bytes_record a b listed run
       written = same_fronts w (bytes_record a b listed run) between now (sized first second listed _ (length (reads_of run)) kind (given_pass passes.0) refl) left
 
-      of_made : {after : RecordBytes} {r : Result (Option DuplexConsensus) Refusal} → WrittenAs first.annotation second.annotation (Ok made) now before after r → ConsensusBytesAs a b listed run before after r
+      of_made : {after : RecordBytes} {r : Result (Option DuplexConsensus) Refusal} → WrittenAs itself first.annotation second.annotation (Ok made) now before after r → ConsensusBytesAs a b listed run before after r
       of_made x =
           let y = rw (← passes.1) at x in
-          record { answered = rw number at y.answered; outputs = rw (← number, ← written) y.outputs }
+          record { answered = rw number at (as_it_is (outputs_refused w before) kind y.answered); outputs = rw (← number, ← written) y.outputs }
 
     -- What was refused for what was given is not written.
     of_refused : {after : RecordBytes} {row : Refusal} {r : Result (Option DuplexConsensus) Refusal} → BytesAs a b listed run between now (Err row) → (r ≡ Err row) × (after ≡ before) → ConsensusBytesAs a b listed run before after r
@@ -331,7 +335,7 @@ module _ (a b : StrandBytes) (listed : Bool) (run : List ℕ) where
         → p ≡ first.annotation
         → q ≡ second.annotation
         → BytesAs a b listed run between now made
-        → WrittenAs p q made now before after r
+        → WrittenAs itself p q made now before after r
         → ConsensusBytesAs a b listed run before after r
     from_arrays (Ok made) e f l x = of_made l (rw (e, f) at x)
     from_arrays (Err row) e f l x = of_refused l x

@@ -13,15 +13,15 @@ ghost use Rattle.c_consensus.specs.Consensus.{MoleculeBytesAs};
 use c_record::{ByteOutputs, RecordSlices, write_record};
 use duplex_kind::DuplexConsensus;
 use duplex_outputs::RecordOutputs;
-use methylation::{ConversionPattern, EvidenceOutputs, EvidenceSlices};
-use molecule_consensus::{EncodedMolecule, duplex_consensus_of_bytes, plain_consensus_of_bytes};
+use methylation::{ConversionPattern, EvidenceSlices};
+use molecule_consensus::{EncodedMolecule, RecordBuffers, plain_consensus_of_bytes};
 use molecule_strand::EncodedStrand;
 use refusals::Refusal;
 
 fn annotation_of(s: Option<EncodedStrand>) -> Option<ConversionPattern>
     ensures { result ≡ (encoded_in s.entry).annotation }
 {
-    s.and_then(|s| s.annotation)
+    s.and_then(|s| s.annotation())
 }
 
 // The record, with arrays for evidence.
@@ -35,45 +35,21 @@ fn annotated_bytes(
         (bytes_out out.new)
         result }
 {
-    // No heap: arrays of the most that is looked at.
-    let mut bases = [0; 1024];
-    let mut quals = [0; 1024];
-    let mut errors = [0; 1024];
-    let mut a_marks = [0; 1024];
-    let mut a_unconverted = [0; 1024];
-    let mut a_converted = [0; 1024];
-    let mut b_marks = [0; 1024];
-    let mut b_unconverted = [0; 1024];
-    let mut b_converted = [0; 1024];
-    let mut own = RecordOutputs {
-        bases: &mut bases,
-        quals: &mut quals,
-        errors: &mut errors,
-    };
-    let mut a_evidence = EvidenceOutputs {
-        marks: &mut a_marks,
-        unconverted: &mut a_unconverted,
-        converted: &mut a_converted,
-    };
-    let mut b_evidence = EvidenceOutputs {
-        marks: &mut b_marks,
-        unconverted: &mut b_unconverted,
-        converted: &mut b_converted,
-    };
-    let made = duplex_consensus_of_bytes(m, &mut own, &mut a_evidence, &mut b_evidence);
+    let mut own = RecordBuffers::zeros();
+    let made = own.duplex_consensus_of_bytes(m);
     let arrays = RecordSlices {
-        bases: &bases,
-        quals: &quals,
-        errors: &errors,
+        bases: &own.bases,
+        quals: &own.quals,
+        errors: &own.errors,
         a: EvidenceSlices {
-            marks: &a_marks,
-            unconverted: &a_unconverted,
-            converted: &a_converted,
+            marks: &own.a_marks,
+            unconverted: &own.a_unconverted,
+            converted: &own.a_converted,
         },
         b: EvidenceSlices {
-            marks: &b_marks,
-            unconverted: &b_unconverted,
-            converted: &b_converted,
+            marks: &own.b_marks,
+            unconverted: &own.b_unconverted,
+            converted: &own.b_converted,
         },
     };
     write_record(made, annotation_of(m.a), annotation_of(m.b), arrays, out)
@@ -83,11 +59,7 @@ fn annotated_bytes(
 fn plain_arrays<'a>(bases: &'a [u8], quals: &'a [u8], errors: &'a [u16]) -> RecordSlices<'a>
     ensures { record_in result ≡ record_of bases.now quals.now errors.now [] [] [] [] [] [] }
 {
-    let none = EvidenceSlices {
-        marks: &[],
-        unconverted: &[],
-        converted: &[],
-    };
+    let none = EvidenceSlices::none();
     RecordSlices {
         bases,
         quals,
@@ -112,7 +84,7 @@ pub fn duplex_consensus_bytes(
     if annotation_of(m.a).is_some() | annotation_of(m.b).is_some() {
         return annotated_bytes(m, out);
     }
-    // No heap: arrays of the most that is looked at.
+    // No heap: arrays of the most that is looked at. No struct of the three: it would be taken apart for the outputs and for the slices.
     let mut bases = [0; 1024];
     let mut quals = [0; 1024];
     let mut wrong = [0; 1024];

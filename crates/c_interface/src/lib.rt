@@ -17,15 +17,14 @@ use c_consensus::duplex_consensus_bytes;
 use c_metrics::metrics_of_bytes;
 use c_record::ByteOutputs;
 use duplex_kind::DuplexConsensus;
-use duplex_metrics::Counts;
+use duplex_metrics::{Counts, MetricsInput};
 use duplex_reply::DuplexRecord;
-use lists::only_if;
 use molecule_consensus::EncodedMolecule;
 use molecule_strand::{EncodedStrand, annotation_of, wrong_pattern};
 use refusals::{Refusal, refuse};
 
-// Whether a pattern is looked at: that of a strand that is there and annotated. Flags beside values are the C interface's, here and in
-// molecule_strand's annotation_of and wrong_pattern.
+// Whether a pattern is looked at: that of a strand that is there and annotated. Flags beside values are the C interface's, here, in
+// strand_given and strand_told, and in molecule_strand's annotation_of and wrong_pattern.
 fn told(present: u8, annotated: u8) -> bool
     ensures { result ≡ told present annotated }
 {
@@ -39,35 +38,32 @@ fn strand_given<'a>(
     annotated: u8,
     pattern: u8,
     s: EncodedStrand<'a>,
+    evidence: &'a [u8],
 ) -> Option<EncodedStrand<'a>>
-    ensures { encoded_in result ≡ strand_given present annotated pattern s.entry.bases.now s.entry.quals.now s.entry.depths.now s.entry.errors.now s.entry.evidence.now }
+    ensures { encoded_in result ≡ strand_given present annotated pattern s.entry.bases.now s.entry.quals.now s.entry.depths.now s.entry.errors.now evidence.now }
 {
     if present == 0 {
         return None;
     }
-    let annotation = annotation_of(annotated != 0, pattern);
-    let evidence = only_if(annotation.is_some(), s.evidence);
-    Some(EncodedStrand {
-        annotation,
-        evidence,
-        ..s
-    })
+    Some(s.annotated(annotation_of(annotated != 0, pattern), evidence))
 }
 
-// The same, or 13 where the pattern is looked at and stands for nothing.
+// The same, or 13 where the pattern is looked at and stands for nothing. An annotation that s has is not looked at: C's flag and number
+// tell of it.
 pub fn strand_told<'a>(
     present: u8,
     annotated: u8,
     pattern: u8,
     s: EncodedStrand<'a>,
+    evidence: &'a [u8],
 ) -> Result<Option<EncodedStrand<'a>>, Refusal>
-    ensures { told_by result ≡ strand_told present annotated pattern s.entry.bases.now s.entry.quals.now s.entry.depths.now s.entry.errors.now s.entry.evidence.now }
+    ensures { told_by result ≡ strand_told present annotated pattern s.entry.bases.now s.entry.quals.now s.entry.depths.now s.entry.errors.now evidence.now }
 {
     refuse(
         wrong_pattern(told(present, annotated), pattern),
         Refusal::Broken,
     )?;
-    Ok(strand_given(present, annotated, pattern, s))
+    Ok(strand_given(present, annotated, pattern, s, evidence))
 }
 
 // The combination of two strands, each of which may be refused.
@@ -130,22 +126,8 @@ pub extern "C" fn gedrashiw_duplex_consensus(
         (record_bytes bases_out.new quals_out.new errors_out.new a_evidence_out.new b_evidence_out.new)
         result }
 {
-    let a = EncodedStrand {
-        annotation: None,
-        bases: a_bases,
-        quals: a_quals,
-        depths: a_depths,
-        errors: a_errors,
-        evidence: a_evidence,
-    };
-    let b = EncodedStrand {
-        annotation: None,
-        bases: b_bases,
-        quals: b_quals,
-        depths: b_depths,
-        errors: b_errors,
-        evidence: b_evidence,
-    };
+    let a = EncodedStrand::new(a_bases, a_quals, a_depths, a_errors);
+    let b = EncodedStrand::new(b_bases, b_quals, b_depths, b_errors);
     let mut out = ByteOutputs {
         bases: bases_out,
         quals: quals_out,
@@ -154,8 +136,8 @@ pub extern "C" fn gedrashiw_duplex_consensus(
         b_evidence: b_evidence_out,
     };
     DuplexRecord::from(consensus(
-        strand_told(a_present, a_annotated, a_pattern, a),
-        strand_told(b_present, b_annotated, b_pattern, b),
+        strand_told(a_present, a_annotated, a_pattern, a, a_evidence),
+        strand_told(b_present, b_annotated, b_pattern, b, b_evidence),
         (listed != 0).then_some(reads),
         &mut out,
     ))
@@ -186,9 +168,12 @@ pub extern "C" fn gedrashiw_metrics(
         errors: b_errors,
     };
     let b = (second != 0).then_some(b);
+    let x = MetricsInput {
+        a,
+        b,
+        bases,
+        errors,
+    };
     // The numbers are those that C sees.
-    match metrics_of_bytes(a, b, bases, errors, out) {
-        Ok(()) => 0,
-        Err(refusal) => refusal.number(),
-    }
+    metrics_of_bytes(x, out).map_or_else(|refusal| refusal.number(), |()| 0)
 }

@@ -31,7 +31,7 @@ abbrev held : Written → RecordBytes → RecordLengths
 held w out = positions_in w (length out.bases) (length out.quals) (length out.errors) (length out.evidence_a) (length out.evidence_b)
 
 same_held : (w : Written) (out : RecordBytes) → record_lengths w.first w.second (as_arrays out) ≡ held w out
-unfolding as_arrays positions_in
+unfolding as_arrays
 same_held w out =
     rw
     (length_by_group 2 number_of out.errors, length_by_group 9 mark_in out.evidence_a, length_by_group 9 (count_in 1) out.evidence_a, length_by_group 9 (count_in 5) out.evidence_a, length_by_group 9 mark_in out.evidence_b, length_by_group 9 (count_in 1) out.evidence_b, length_by_group 9 (count_in 5) out.evidence_b)
@@ -78,33 +78,33 @@ all_of n xs {k} h = take_all k (take n xs) (omega (arith, length-take n xs))
 short_is : (w : Written) (before : RecordBytes) → record_too_short w.positions (held w before) ≡ short_for w (as_arrays before)
 short_is w before = ap (λ (l : RecordLengths). record_too_short w.positions l) (sym (same_held w before))
 
-module _ (w : Written) (made : Option DuplexConsensus) (arrays : RecordArrays) (before : RecordBytes) where
+module _ {E : Type 0} (gives : Refusal → E → Type 0) (w : Written) (made : Option DuplexConsensus) (arrays : RecordArrays) (before : RecordBytes) where
   abbrev code_short : Bool
   code_short = record_too_short w.positions (held w before)
 
-  pub turned_down : {refusal : Refusal} → refused_if code_short OutputTooShort ≡ Err refusal → Writes w made arrays before before (Err refusal)
-  turned_down {refusal} e = go code_short e (sym (short_is w before))
+  pub turned_down : {row : Refusal} {refusal : E} → refused_if code_short OutputTooShort ≡ Err row → gives row refusal → Writes gives w made arrays before before (Err refusal)
+  turned_down {row} {refusal} e g = go code_short e (sym (short_is w before))
     where
-      go : (b : Bool) → refused_if b OutputTooShort ≡ Err refusal → short_for w (as_arrays before) ≡ b → Writes w made arrays before before (Err refusal)
+      go : (b : Bool) → refused_if b OutputTooShort ≡ Err row → short_for w (as_arrays before) ≡ b → Writes gives w made arrays before before (Err refusal)
       go true e s =
-          let is : refusal ≡ OutputTooShort = cc in
+          let is : row ≡ OutputTooShort = cc in
           record {
-            answered = rw (s, is);
+            answered = rw s (refusal, rw is at g, refl);
             outputs = record { bases = rw s; quals = rw s; errors = rw s; evidence_a = rw s; evidence_b = rw s };
           }
       go false e s = absurd (no e)
         where
-          no : ◌≡◌ {A = Result (Unit {0}) Refusal} (Ok tt) (Err refusal) → ⊥
+          no : ◌≡◌ {A = Result (Unit {0}) Refusal} (Ok tt) (Err row) → ⊥
           no q = cc
 
-  pub passed_on : {x : Unit {0}} {now : RecordBytes} → refused_if code_short OutputTooShort ≡ Ok x → Wrote w arrays before now → Writes w made arrays before now (Ok made)
+  pub passed_on : {x : Unit {0}} {now : RecordBytes} → refused_if code_short OutputTooShort ≡ Ok x → Wrote w arrays before now → Writes gives w made arrays before now (Ok made)
   passed_on {x} {now} e o =
       let s : short_for w (as_arrays before) ≡ false = sym (short_is w before) ∙ unmet code_short e in
       let fit = room_for w before s in
       let a = evidence_places w.first w.positions in
       let b = evidence_places w.second w.positions in
       record {
-        answered = rw s;
+        answered = rw s refl;
         outputs = record {
           bases = rw s (o.bases ∙ ap (λ (l : List ℕ). put l before.bases) (all_of w.positions arrays.bases fit.bases));
           quals = rw s (o.quals ∙ ap (λ (l : List ℕ). put l before.quals) (all_of w.positions arrays.quals fit.quals));

@@ -4,7 +4,7 @@ use Rattle.std.specs.Option.{option_and}
 use Rattle.refusals.specs.declared.Refusal.{Refusal}
 use Rattle.refusals.specs.declared.Refusal.TheVariants.{OutputTooShort}
 use Rattle.refusals.specs.Refusal.{◌if◌, refused}
-use Rattle.refusals.specs.Outcome.{answer, after}
+use Rattle.refusals.specs.Outcome.{after}
 use Rattle.methylation.specs.Arrays.{evidence_in, evidence_fronts, evidence_places, evidence_of_length}
 use Rattle.methylation.specs.declared.ConversionPattern.{ConversionPattern}
 use Rattle.byte_numbers.specs.Bytes.{words16, bytes16}
@@ -81,15 +81,21 @@ fronts w r =
       b = evidence_fronts (evidence_places w.second n) r.b;
     }
 
--- What a call answers and leaves that writes the record which was made, given what it writes of these arrays.
-pub record Writes (w : Written) (made : Option DuplexConsensus) (arrays : RecordArrays) (before now : RecordBytes) (r : Result (Option DuplexConsensus) Refusal) : Type 0 where
-  pub answered : r ≡ answer (outputs_refused w before) made
-  pub outputs : LeavesBytes (outputs_refused w before) (as_bytes (fronts w arrays)) before now
+-- What a call answers that was refused by this row, as its conversion to a refusal of another type gives it, or else made x.
+abbrev pub AnsweredAs : {A E : Type 0} → (Refusal → E → Type 0) → Option Refusal → A → Result A E → Type 0
+AnsweredAs gives None x r = r ≡ Ok x
+AnsweredAs {E = E} gives (Some row) x r = (refusal : E) × gives row refusal × (r ≡ Err refusal)
 
--- The same of what a call answered, of strands with these annotations. A refusal is handed on, and nothing is written.
-abbrev pub WrittenAs : Option ConversionPattern → Option ConversionPattern → Result (Option DuplexConsensus) Refusal → RecordArrays → RecordBytes → RecordBytes → Result (Option DuplexConsensus) Refusal → Type 0
-WrittenAs a b (Err refusal) arrays before now r = (r ≡ Err refusal) × (now ≡ before)
-WrittenAs a b (Ok made) arrays before now r = Writes (written_of a b made) made arrays before now r
+module _ {E : Type 0} (gives : Refusal → E → Type 0) where
+  -- What a call answers and leaves that writes the record which was made, given what it writes of these arrays.
+  pub record Writes (w : Written) (made : Option DuplexConsensus) (arrays : RecordArrays) (before now : RecordBytes) (r : Result (Option DuplexConsensus) E) : Type 0 where
+    pub answered : AnsweredAs gives (outputs_refused w before) made r
+    pub outputs : LeavesBytes (outputs_refused w before) (as_bytes (fronts w arrays)) before now
+
+  -- The same of what a call answered, of strands with these annotations. A refusal of any type is handed on, and nothing is written.
+  abbrev pub WrittenAs : Option ConversionPattern → Option ConversionPattern → Result (Option DuplexConsensus) E → RecordArrays → RecordBytes → RecordBytes → Result (Option DuplexConsensus) E → Type 0
+  WrittenAs a b (Err refusal) arrays before now r = (r ≡ Err refusal) × (now ≡ before)
+  WrittenAs a b (Ok made) arrays before now r = Writes (written_of a b made) made arrays before now r
 
 -- For the functions below the call: how many positions outputs of so many bytes hold, of evidence where it is written.
 abbrev pub positions_in : Written → ℕ → ℕ → ℕ → ℕ → ℕ → RecordLengths

@@ -100,16 +100,17 @@ fn write_strand(
 }
 
 // Writes the record that a call answered, from the arrays that it left, and hands its answer on. Evidence is written of the annotated
-// strands that are in the record. What was refused is not written. Refuses by 12, and then writes nothing.
-pub fn write_record(
-    made: Result<Option<DuplexConsensus>, Refusal>,
+// strands that are in the record. What was refused, for whatever, is not written. Of the annotations only whether they are there counts.
+// Refuses by 12, and then writes nothing.
+pub fn write_record<E: From<Refusal>>(
+    made: Result<Option<DuplexConsensus>, E>,
     a: Option<ConversionPattern>,
     b: Option<ConversionPattern>,
     arrays: RecordSlices,
     out: &mut ByteOutputs<'_>,
-) -> Result<Option<DuplexConsensus>, Refusal>
+) -> Result<Option<DuplexConsensus>, E>
     ensures same_references { SameBytes out.old out.new }
-    ensures written { WrittenAs a b made (record_in arrays.entry) (bytes_out out.old) (bytes_out out.new) result }
+    ensures written { WrittenAs E.from_gives a b made (record_in arrays.entry) (bytes_out out.old) (bytes_out out.new) result }
 {
     let made = made?;
     let w = written_of(a, b, made);

@@ -18,13 +18,14 @@ use Rattle.duplex_reply.specs.declared.DuplexRecord.{DuplexRecord}
 use Rattle.duplex_record.specs.Record.{DuplexAs}
 use Rattle.source_reads.specs.Reads.{any_leaves, read_errors, expected_at}
 use Rattle.source_reads.specs.declared.SourceRead.{SourceRead}
+use Rattle.source_reads.specs.declared.SourceReads.{SourceReads}
 
 -- The errors of a list of reads at position i, held to 0..32,767.
 unfoldable pub list_errors : List SourceRead → List ℕ → CtInput → Arrays → Arrays → ℕ → ℕ
 list_errors reads bytes ct a b i = short (read_errors bytes (expected_at ct a.bases a.quals b.bases b.quals i) i reads)
 
 -- How many positions of a record have their errors counted: all of a record of two strands with a list.
-abbrev pub counted_positions : Bool → Result (Option DuplexConsensus) Refusal → ℕ
+abbrev pub counted_positions : {E : Type 0} → Bool → Result (Option DuplexConsensus) E → ℕ
 counted_positions listed (Err refusal) = 0
 counted_positions listed (Ok None) = 0
 counted_positions listed (Ok (Some (Ab n))) = 0
@@ -34,6 +35,11 @@ counted_positions listed (Ok (Some (Both n))) = cond listed n 0
 -- What is given of a list of reads, where there is one.
 abbrev pub given_list : Bool → ℕ → Bool → Option GivenReads
 given_list listed count leaving = cond listed (Some (record { count = count; leaving = leaving })) None
+
+-- As the code has it.
+abbrev pub given_in : Option SourceReads → Option GivenReads
+given_in None = None
+given_in (Some list) = Some (record { count = length list.reads.now; leaving = any_leaves (length list.bytes.now) list.reads.now })
 
 -- What a call answers and leaves in its outputs.
 abbrev pub ConsensusAs : Strand → Strand → Bool → List SourceRead → List ℕ → RecordArrays → RecordArrays → Result (Option DuplexConsensus) Refusal → Type 0

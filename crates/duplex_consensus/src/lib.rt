@@ -3,14 +3,13 @@
 // duplex_kind, duplex_reply, duplex_record and source_reads.
 #![tactic(auto)]
 
-ghost use Rattle.std.specs.Prelude.{◌≡◌, cond, Some, None, length, ◌||◌};
+ghost use Rattle.std.specs.Prelude.{◌≡◌, ◌||◌};
 ghost use Rattle.methylation.specs.Choices.{annotation_of};
 ghost use Rattle.replies.specs.Choices.{yes};
 ghost use Rattle.vanilla_caller.specs.Strand.{arrays};
 ghost use Rattle.duplex_outputs.specs.Outputs.{record_of};
 ghost use Rattle.duplex_kind.specs.Kind.{strand};
-ghost use Rattle.source_reads.specs.Reads.{any_leaves};
-ghost use Rattle.duplex_consensus.specs.Consensus.{wrong_strand, counted_positions, given_list, EntryAs};
+ghost use Rattle.duplex_consensus.specs.Consensus.{wrong_strand, counted_positions, given_in, EntryAs};
 
 use duplex_kind::{DuplexConsensus, GivenReads};
 use duplex_molecule::ct_input;
@@ -20,30 +19,29 @@ use duplex_reply::{DuplexRecord, strand_in};
 use methylation::{EvidenceOutputs, EvidenceSlices};
 use refusals::Refusal;
 use replies::annotation_of;
-use source_reads::{CombinedBases, SourceRead, StrandBases, count_read_errors, list_leaves};
+use source_reads::{
+    CombinedBases, SourceRead, SourceReads, StrandBases, count_read_errors, list_leaves,
+};
 use vanilla_caller::VanillaConsensusRead;
 
-// How many positions of a record have their errors counted: all of a record of two strands with a list.
+// How many positions of a record have their errors counted: all of a record of two strands with a list. A refusal of any type will do.
 // Of a list only whether there is one counts here.
-pub fn counted_positions(made: Result<Option<DuplexConsensus>, Refusal>, listed: bool) -> usize
+pub fn counted_positions<E: Copy>(made: Result<Option<DuplexConsensus>, E>, listed: bool) -> usize
     ensures { result ≡ counted_positions listed made }
 {
     match made {
-        Err(_) => 0,
-        Ok(None) => 0,
-        Ok(Some(DuplexConsensus::Ab(_))) => 0,
-        Ok(Some(DuplexConsensus::Ba(_))) => 0,
-        Ok(Some(DuplexConsensus::Both(n))) => if listed { n } else { 0 },
+        Ok(Some(DuplexConsensus::Both(n))) if listed => n,
+        _ => 0,
     }
 }
 
-// What is given of the reads, where they are listed. The flag and the reads are the entry's, for C.
-fn given_list(listed: bool, reads: &[SourceRead], size: usize) -> Option<GivenReads>
-    ensures { result ≡ given_list listed (length reads.now) (any_leaves size reads.now) }
+// What is given of a list, where there is one.
+fn given_list(list: Option<SourceReads>) -> Option<GivenReads>
+    ensures { result ≡ given_in list.entry }
 {
-    listed.then(|| GivenReads {
-        count: reads.len(),
-        leaving: list_leaves(reads, size),
+    list.map(|list| GivenReads {
+        count: list.reads.len(),
+        leaving: list_leaves(list.reads, list.bytes.len()),
     })
 }
 
@@ -91,40 +89,21 @@ pub extern "C" fn gedrashiw_duplex_consensus_typed(
         (record_of bases_out.new quals_out.new errors_out.new a_marks_out.new a_unconverted_out.new a_converted_out.new b_marks_out.new b_unconverted_out.new b_converted_out.new)
         result }
 {
-    let a = VanillaConsensusRead {
-        bases: a_bases,
-        quals: a_quals,
-        depths: a_depths,
-        errors: a_errors,
-        annotation: None,
-        evidence: EvidenceSlices {
-            marks: a_marks,
-            unconverted: a_unconverted,
-            converted: a_converted,
-        },
-    };
+    let a = VanillaConsensusRead::new(a_bases, a_quals, a_depths, a_errors);
+    let a_evidence = EvidenceSlices::new(a_marks, a_unconverted, a_converted);
     // No `?`, here and for B: a function that answers a Result would have this whole contract once more.
-    let a = match strand_in(a_present, a_annotation, a) {
+    let a = match strand_in(a_present, a_annotation, a, a_evidence) {
         Ok(a) => a,
         Err(refusal) => return DuplexRecord::from(refusal),
     };
-    let b = VanillaConsensusRead {
-        bases: b_bases,
-        quals: b_quals,
-        depths: b_depths,
-        errors: b_errors,
-        annotation: None,
-        evidence: EvidenceSlices {
-            marks: b_marks,
-            unconverted: b_unconverted,
-            converted: b_converted,
-        },
-    };
-    let b = match strand_in(b_present, b_annotation, b) {
+    let b = VanillaConsensusRead::new(b_bases, b_quals, b_depths, b_errors);
+    let b_evidence = EvidenceSlices::new(b_marks, b_unconverted, b_converted);
+    let b = match strand_in(b_present, b_annotation, b, b_evidence) {
         Ok(b) => b,
         Err(refusal) => return DuplexRecord::from(refusal),
     };
-    let list = given_list(listed != 0, reads, bytes.len());
+    let reads = SourceReads { reads, bytes };
+    let list = given_list((listed != 0).then_some(reads));
     let mut out = RecordOutputs {
         bases: bases_out,
         quals: quals_out,
@@ -153,6 +132,6 @@ pub extern "C" fn gedrashiw_duplex_consensus_typed(
             quals: b_quals,
         },
     };
-    count_read_errors(reads, bytes, s, out.errors);
+    count_read_errors(reads, s, out.errors);
     DuplexRecord::from(made)
 }

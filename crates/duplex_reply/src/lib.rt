@@ -1,14 +1,17 @@
 // A strand that numbers tell of, and the kind of a duplex record and its length as numbers, for the entry points that programs link.
-// Uses refusals, replies, vanilla_caller and duplex_kind.
+// Uses refusals, methylation, replies, vanilla_caller and duplex_kind.
 #![tactic(auto)]
 
 ghost use Rattle.std.specs.Prelude.{◌≡◌};
 ghost use Rattle.refusals.specs.Refusal.{number_of};
-ghost use Rattle.vanilla_caller.specs.Strand.{arrays_in};
+ghost use Rattle.methylation.specs.Arrays.{evidence_in};
+ghost use Rattle.methylation.specs.Choices.{annotation_of};
+ghost use Rattle.vanilla_caller.specs.Strand.{arrays_in, with_evidence, arrays_seen};
 ghost use Rattle.duplex_reply.specs.Reply.{no_record, record_for};
 ghost use Rattle.duplex_reply.specs.Strand.{told_by, strand_by};
 
 use duplex_kind::DuplexConsensus;
+use methylation::EvidenceSlices;
 use refusals::Refusal;
 use replies::annotation_in;
 use vanilla_caller::VanillaConsensusRead;
@@ -55,21 +58,20 @@ impl From<Result<Option<DuplexConsensus>, Refusal>> for DuplexRecord {
     }
 }
 
-// A strand as numbers tell of it: 0 is not present, any other number is; an annotation is 0 for none, 1 for C to T, 2 for G to A, and
-// is not looked at of a strand that is not present. Refuses by 13.
+// A strand as numbers tell of it, with the evidence that stands beside it: 0 is not present, any other number is; an annotation is 0 for
+// none, 1 for C to T, 2 for G to A, and is not looked at of a strand that is not present, nor is evidence without one. One that the
+// strand has is not looked at: its number tells of it. Refuses by 13.
 pub fn strand_in<'a>(
     present: u8,
     annotation: u8,
     strand: VanillaConsensusRead<'a>,
+    evidence: EvidenceSlices<'a>,
 ) -> Result<Option<VanillaConsensusRead<'a>>, Refusal>
-    ensures { told_by result ≡ strand_by present annotation (arrays_in strand.entry) }
+    ensures { told_by result ≡ strand_by present annotation (arrays_seen (annotation_of annotation) (with_evidence (arrays_in strand.entry) (evidence_in evidence.entry))) }
 {
     if present == 0 {
         return Ok(None);
     }
     let annotation = annotation_in(annotation)?;
-    Ok(Some(VanillaConsensusRead {
-        annotation,
-        ..strand
-    }))
+    Ok(Some(strand.annotated(annotation, evidence)))
 }

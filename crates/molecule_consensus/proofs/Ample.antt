@@ -18,12 +18,13 @@ use Rattle.std.specs.Option.{option_map_or}
 use Rattle.methylation.specs.Arrays.{EvidenceArrays, evidence_arrays, evidence_lengths, annotated_lengths, evidence_too_short}
 use Rattle.methylation.specs.declared.ConversionPattern.{ConversionPattern}
 use Rattle.vanilla_caller.specs.Strand.{lengths}
-use Rattle.duplex_outputs.specs.Outputs.{RecordArrays, record_of, record_lengths, record_too_short}
+use Rattle.duplex_outputs.specs.Outputs.{RecordArrays, record_lengths, record_too_short}
 use Rattle.duplex_kind.specs.Kind.{Strand, given, positions, record_length, some_depth, covered, kind_of, long, uneven}
 use Rattle.duplex_kind.specs.declared.DuplexConsensus.TheVariants.{Ab, Ba, Both}
 use Rattle.duplex_record.specs.Record.{outputs_short}
 use Rattle.molecule_reads.specs.Run.{reads_of}
 use Rattle.molecule_strand.specs.Strand.{StrandBytes, strand_of}
+use Rattle.molecule_consensus.specs.Molecule.{zero_buffers}
 use Rattle.molecule_consensus.specs.Bytes.{broken, bytes_refused, inputs_refused}
 use Rattle.molecule_consensus.proofs.Few.{not_long}
 
@@ -42,7 +43,7 @@ pub record Ample (out : RecordArrays) : Type 0 where
 abbrev zeros : List ℕ
 zeros = replicate 1024 0
 
-pub zeros_ample : Ample (record_of zeros zeros zeros zeros zeros zeros zeros zeros zeros)
+pub zeros_ample : Ample zero_buffers
 zeros_ample =
     let h : 1024 ≤ length zeros = omega (arith, length-replicate {A = ℕ} 1024 0) in
     let evidence : AmpleEvidence (evidence_arrays zeros zeros zeros) = record { marks = h; unconverted = h; converted = h } in

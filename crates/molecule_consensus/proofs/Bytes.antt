@@ -33,7 +33,7 @@ use Rattle.duplex_kind.specs.declared.DuplexConsensus.{DuplexConsensus}
 use Rattle.duplex_record.specs.Record.{duplex_refused, DuplexAs}
 use Rattle.molecule_errors.specs.Run.{run_errors}
 use Rattle.molecule_strand.specs.Rows.{misfit_in, numbers_in, long_in, early_faults}
-use Rattle.molecule_strand.specs.Strand.{StrandBytes, strand_bytes, strand_of, encoded_in, Narrow}
+use Rattle.molecule_strand.specs.Strand.{StrandBytes, strand_bytes, strand_of, pattern_held, bytes_held, encoded_in, Narrow}
 use Rattle.molecule_strand.specs.declared.EncodedStrand.{EncodedStrand}
 use Rattle.molecule_strand.proofs.Strand.{looked_at}
 use Rattle.molecule_consensus.specs.Bytes.{seen, misfit, broken, bytes_refused, bytes_record, BytesAs}
@@ -60,7 +60,7 @@ module _ where
   pub same_misfit : (s : Option EncodedStrand) → misfit_in (encoded_in s) ≡ misfit (seen (encoded_in s))
   unfolding only_if
   same_misfit None = refl
-  same_misfit (Some s) = counted s.annotation s.depths.now s.errors.now s.evidence.now
+  same_misfit (Some s) = counted (pattern_held s.methylation) s.depths.now s.errors.now (bytes_held s.methylation)
 
   seen_long : (present : Bool) (annotation : Option ConversionPattern) (bases quals depths errors evidence : List ℕ) →
       let s = strand_bytes present annotation bases quals depths errors evidence in
@@ -95,7 +95,7 @@ narrow_of (Some pattern) bases quals depths errors evidence h =
 pub narrow : (s : Option EncodedStrand) → long_in (encoded_in s) ≡ false → Narrow (looked_at (encoded_in s))
 unfolding only_if
 narrow None h = record { depths = omega arith; errors = omega arith; evidence = omega arith }
-narrow (Some s) h = narrow_of s.annotation s.bases.now s.quals.now s.depths.now s.errors.now s.evidence.now h
+narrow (Some s) h = narrow_of (pattern_held s.methylation) s.bases.now s.quals.now s.depths.now s.errors.now (bytes_held s.methylation) h
 
 -- A refusal by one of the first two rows is one whatever comes after.
 abbrev two_rows : Bool → Bool → Option Refusal → Option Refusal

@@ -26,8 +26,10 @@ use Rattle.duplex_consensus.specs.Consensus.{counted_positions}
 use Rattle.duplex_consensus.proofs.Counting.{none_asked}
 use Rattle.duplex_consensus.proofs.Made.{with_errors}
 use Rattle.source_reads.specs.Reads.{counted_errors}
-use Rattle.methylation.specs.declared.ConversionPattern.{ConversionPattern}
-use Rattle.vanilla_caller.specs.Strand.{arrays_in}
+use Rattle.methylation.specs.Annotation.{pattern_held, evidence_held}
+use Rattle.methylation.specs.Outputs.{no_evidence}
+use Rattle.methylation.specs.declared.MethylationAnnotation.{MethylationAnnotation}
+use Rattle.vanilla_caller.specs.Strand.{Arrays, arrays_in, with_evidence}
 use Rattle.vanilla_caller.specs.declared.VanillaConsensusRead.{VanillaConsensusRead}
 use Rattle.molecule_reads.specs.Run.{reads_of}
 use Rattle.molecule_errors.proofs.Run.{Listed, refused_as, made_as}
@@ -55,9 +57,13 @@ pub plain_same :
     → plain_of x ≡ given_of x
 plain_same s z x depths errors is e = go x (ap (λ (y : Strand). y.annotation) e ∙ ap (λ (y : StrandBytes). y.annotation) is)
   where
+    by_annotation : (a : Arrays) (m : Option MethylationAnnotation) → pattern_held m ≡ None → strand true None (with_evidence a no_evidence) ≡ strand true (pattern_held m) (with_evidence a (evidence_held m))
+    by_annotation a None n = refl
+    by_annotation a (Some m) n = absurd cc
+
     go : (x : Option VanillaConsensusRead) → (given_of x).annotation ≡ None → plain_of x ≡ given_of x
     go None n = refl
-    go (Some s) n = ap (λ (y : Option ConversionPattern). strand true y (arrays_in s)) (sym n)
+    go (Some s) n = by_annotation (arrays_in s) s.methylation n
 
 -- And so no arrays for evidence.
 pub plain_is :
@@ -87,7 +93,7 @@ module _
         → DuplexAs x y (is_some list) (count_in list) (leaving_in list) uncounted before now (Ok made)
         → p ≡ x
         → q ≡ y
-        → us ≡ counted_errors (reads_of run) run (ct_input p.annotation q.annotation) (counted_positions listed (Ok made)) p.arrays.bases p.arrays.quals q.arrays.bases q.arrays.quals now.errors
+        → us ≡ counted_errors (reads_of run) run (ct_input p.annotation q.annotation) (counted_positions {E = Refusal} listed (Ok made)) p.arrays.bases p.arrays.quals q.arrays.bases q.arrays.quals now.errors
         → BytesAs (seen (encoded_in a)) (seen (encoded_in b)) listed run before (with_errors us now) (Ok made)
     made_of {now} d e f c = passed_on a b listed run before t early (made_as _ _ l before now (rw (first, second) at d) (rw (e ∙ first, f ∙ second) at c))
 

@@ -1,11 +1,12 @@
 -- A molecule given as bytes, as the code has it: two strands, each of which may be absent, and a list of reads, which are a run.
-use Rattle.std.specs.Prelude.{ℕ, Bool, Option, Result, List, is_some}
+use Rattle.std.specs.Prelude.{ℕ, Bool, Option, Result, List, is_some, replicate}
 use Rattle.refusals.specs.declared.Refusal.{Refusal}
-use Rattle.duplex_outputs.specs.Outputs.{RecordArrays}
+use Rattle.duplex_outputs.specs.Outputs.{RecordArrays, record_of}
 use Rattle.duplex_kind.specs.declared.DuplexConsensus.{DuplexConsensus}
 use Rattle.molecule_strand.specs.Strand.{StrandBytes, encoded_in}
 use Rattle.molecule_errors.specs.Run.{run_in}
 use Rattle.molecule_consensus.specs.declared.EncodedMolecule.{EncodedMolecule}
+use Rattle.molecule_consensus.specs.declared.RecordBuffers.{RecordBuffers}
 use Rattle.molecule_consensus.specs.Bytes.{seen, plain, BytesAs}
 
 pub record MoleculeBytes : Type 0 where
@@ -28,3 +29,13 @@ plain_of m = record { a = plain m.a; b = plain m.b; listed = m.listed; run = m.r
 -- What a call answers and leaves in its outputs, given what is looked at.
 abbrev pub MoleculeAs : MoleculeBytes → RecordArrays → RecordArrays → Result (Option DuplexConsensus) Refusal → Type 0
 MoleculeAs m before now r = BytesAs m.a m.b m.listed m.run before now r
+
+-- Arrays of 1,024 places each, as a call begins with them.
+abbrev pub zero_buffers : RecordArrays
+zero_buffers =
+    record_of (replicate 1024 0) (replicate 1024 0) (replicate 1024 0) (replicate 1024 0) (replicate 1024 0) (replicate 1024 0) (replicate 1024 0) (replicate 1024 0)
+    (replicate 1024 0)
+
+-- A call's own arrays, as the code has them.
+abbrev pub buffers_in : RecordBuffers → RecordArrays
+buffers_in r = record_of r.bases r.quals r.errors r.a_marks r.a_unconverted r.a_converted r.b_marks r.b_unconverted r.b_converted

@@ -116,7 +116,7 @@ pub made_as :
     → Listed there run list
     → (before now : RecordArrays) {made : Option DuplexConsensus} {us : List ℕ}
     → DuplexAs a b (is_some list) (count_in list) (leaving_in list) uncounted before now (Ok made)
-    → us ≡ counted_errors (reads_of run) run (ct_input a.annotation b.annotation) (counted_positions there (Ok made)) a.arrays.bases a.arrays.quals b.arrays.bases b.arrays.quals now.errors
+    → us ≡ counted_errors (reads_of run) run (ct_input a.annotation b.annotation) (counted_positions {E = Refusal} there (Ok made)) a.arrays.bases a.arrays.quals b.arrays.bases b.arrays.quals now.errors
     → DuplexAs a b there (length (reads_of run)) false (run_errors a b run) before (with_errors us now) (Ok made)
 made_as a b {there} {run} l before now {made} {us} d u =
     subst (λ (x : Bool). DuplexAs a b there (length (reads_of run)) x (run_errors a b run) before (with_errors us now) (Ok made)) (none_leaves run)

@@ -38,6 +38,7 @@ pub fn read_list(run: Option<&[u8]>) -> Result<Option<GivenReads>, Refusal>
     }))
 }
 
+// Not one with line_strands' `count_bytes`, of other fields of another type: all that both share is what `map_or` is.
 fn bases_in<'a>(s: Option<VanillaConsensusRead<'a>>) -> StrandBases<'a>
     ensures bases { result.bases.now ≡ (given_of s.entry).arrays.bases }
     ensures quals { result.quals.now ≡ (given_of s.entry).arrays.quals }
@@ -55,10 +56,12 @@ fn bases_in<'a>(s: Option<VanillaConsensusRead<'a>>) -> StrandBases<'a>
     )
 }
 
-// Counts the errors of a record that was made: all positions of a record of two strands with a list. No other run is walked.
+// Counts the errors of a record that was made: all positions of a record of two strands with a list. No other run is walked, and a refusal
+// of any type will do. Of the strands only bases, qualities and annotations are looked at, so that their other arrays may be any.
+// A and B are the two operands, as the caller has them.
 #[tactic(auto, using(duplex_consensus::proofs::Counting::none_asked))]
-pub fn count_errors(
-    made: Result<Option<DuplexConsensus>, Refusal>,
+pub fn count_errors<E: Copy>(
+    made: Result<Option<DuplexConsensus>, E>,
     run: Option<&[u8]>,
     a: Option<VanillaConsensusRead>,
     b: Option<VanillaConsensusRead>,
@@ -71,7 +74,10 @@ pub fn count_errors(
         (given_of b.entry).arrays.bases (given_of b.entry).arrays.quals errors.old }
 {
     if let (Ok(Some(DuplexConsensus::Both(n))), Some(run)) = (made, run) {
-        let ct = ct_input(a.and_then(|s| s.annotation), b.and_then(|s| s.annotation));
+        let ct = ct_input(
+            a.and_then(|s| s.annotation()),
+            b.and_then(|s| s.annotation()),
+        );
         let s = CombinedBases {
             ct,
             positions: n,

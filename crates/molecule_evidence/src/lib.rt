@@ -18,6 +18,7 @@ fn read_marks(bytes: &[u8], marks: &mut [u8])
     ensures { marks.new ≡ put (take (length marks.old) (marks_of bytes.now)) marks.old }
 {
     let n = marks.len().min(bytes.len() / POSITION_BYTES);
+    // By index, here and below: of what is written through marks.iter_mut().zip(bytes.chunks_exact(9)) the proof learns no mark (tried).
     for i in 0..n {
         marks[i] = bytes[POSITION_BYTES * i];
     }
@@ -62,6 +63,7 @@ pub fn write_evidence(evidence: EvidenceSlices<'_>, out: &mut [u8])
     ensures { out.new ≡ put (evidence_bytes (take (length out.old / 9) evidence.entry.marks.now) evidence.entry.unconverted.now evidence.entry.converted.now) out.old }
 {
     let n = (out.len() / POSITION_BYTES).min(evidence.marks.len());
+    // By index: a count may be missing, and the counts stand at the mark's own place.
     for i in 0..n {
         let position = Evidence {
             mark: evidence.marks[i],

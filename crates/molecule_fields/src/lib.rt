@@ -71,18 +71,12 @@ fn length_fits(tag: u8, n: usize) -> bool
     }
 }
 
-#[tactic(auto, using(crate::proofs::Marks::passed, crate::proofs::Marks::failed, crate::proofs::Marks::ended))]
 fn marks_fit(value: &[u8]) -> bool
     ensures { result ≡ every is_bit (marks value.now) }
 {
     // By place and not by groups of nine after the pattern: of a value that does not fit its width the last mark may stand in a
     // shorter group.
-    for i in 0..value.len() / 9 {
-        if 1 < value[9 * i + 1] {
-            return false;
-        }
-    }
-    true
+    (0..value.len() / 9).all(|i| value[9 * i + 1] <= 1)
 }
 
 #[tactic(auto, unfolding(crate::specs::Widths::bits_fit))]
@@ -92,7 +86,7 @@ fn bits_fit(tag: u8, value: &[u8]) -> bool
     !is_annotation(tag) || (get_or(value, 0, 0) <= 1 && marks_fit(value))
 }
 
-// Whether a field has a tag of the format and a value that fits it.
+// Whether a field has a tag of the format and a value that fits it. What follows the field is not looked at.
 #[tactic(auto, unfolding(crate::specs::Widths::well_formed))]
 pub fn field_fits(f: FirstField) -> bool
     ensures { result ≡ well_formed (field_in f.entry) }
@@ -100,7 +94,7 @@ pub fn field_fits(f: FirstField) -> bool
     known_tag(f.tag) && length_fits(f.tag, f.value.len()) && bits_fit(f.tag, f.value)
 }
 
-// The flags of a field that is a read.
+// The flags of a field that is a read. Of the field only the value is looked at.
 #[tactic(auto, unfolding(crate::specs::Widths::flags_of), using(byte_numbers::proofs::Bytes::two_le, byte_numbers::proofs::Bytes::word_le))]
 pub fn read_flags(f: FirstField) -> u16
     ensures { result ≡ flags_of (field_in f.entry) }

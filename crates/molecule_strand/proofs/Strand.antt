@@ -1,27 +1,39 @@
 -- Laws of a strand given as bytes.
---     nothing_read, none_read, no_strand     of a strand that is absent
+--     held_seen, held_misfit      of no annotation
+--     nothing_read, none_read     of a strand that is absent
 --     Room, room                what arrays of 1,024 places each have room for
 --     strand_whole, plain_whole     what was read to such arrays is the strand that the bytes stand for
 -- Assumes nothing.
 use mathlib.Core.Path.{◌≡◌, refl, sym, ◌∙◌}
-use mathlib.Core.Bool.{Bool, false}
+use mathlib.Core.Bool.{Bool, false, not, ◌&&◌}
 use mathlib.Core.List.{List, []}
-use Prim.Native.Nat.{ℕ, ◌/◌, ◌≤◌}
+use Prim.Native.Nat.{ℕ, ◌/◌, ◌%◌, ◌≤◌}
+use lib.Dec.{eqb}
 use native.Mathlib.Omega.{arith}
 use lib.ListN.{length, take, replicate, length-replicate}
 use lib.Seq.{take-nil}
-use Rattle.std.proofs.Common.{None}
+use Rattle.std.proofs.Common.{Option, None, Some}
 use Rattle.lists.specs.Part.{only_if}
 use Rattle.lists.specs.Table.{tabulate}
 use Rattle.lists.proofs.Output.{put_none, put_fitting, front_of}
-use Rattle.methylation.specs.Arrays.{EvidenceArrays, evidence_arrays}
+use Rattle.methylation.specs.Arrays.{evidence_arrays}
+use Rattle.methylation.specs.Methylation.{is_annotated}
+use Rattle.molecule_strand.specs.declared.EncodedAnnotation.{EncodedAnnotation}
 use Rattle.byte_numbers.specs.Bytes.{number_of}
 use Rattle.byte_numbers.specs.Groups.{by_group}
 use Rattle.byte_numbers.proofs.Groups.{length_by_group}
 use Rattle.molecule_evidence.specs.Evidence.{mark_in, count_in}
-use Rattle.vanilla_caller.specs.Strand.{arrays}
-use Rattle.duplex_kind.specs.Kind.{strand}
-use Rattle.molecule_strand.specs.Strand.{StrandBytes, strand_bytes, strand_of, Narrow, Numbers, numbers, ReadTo, evidence_seen, NumbersRead, StrandRead, numbers_strand}
+use Rattle.molecule_strand.specs.Strand.{StrandBytes, strand_bytes, pattern_held, bytes_held, strand_of, Narrow, Numbers, numbers, ReadTo, evidence_seen, NumbersRead, StrandRead, numbers_strand}
+
+-- Without an annotation there are no bytes of evidence.
+pub held_seen : (m : Option EncodedAnnotation) → only_if (is_annotated (pattern_held m)) (bytes_held m) ≡ bytes_held m
+unfolding only_if
+held_seen None = refl
+held_seen (Some m) = refl
+
+pub held_misfit : (m : Option EncodedAnnotation) → (is_annotated (pattern_held m) && not (eqb (length (bytes_held m) % 9) 0)) ≡ not (eqb (length (bytes_held m) % 9) 0)
+held_misfit None = refl
+held_misfit (Some m) = refl
 
 -- Of no bytes nothing is read.
 nothing : (width : ℕ) (f : List ℕ → ℕ) (before : List ℕ) → 0 / width ≡ 0 → ReadTo (by_group width f []) before before
@@ -43,10 +55,6 @@ none_read x = record {
   unconverted = nothing 9 (count_in 1) x.unconverted refl;
   converted = nothing 9 (count_in 5) x.converted refl;
 }
-
-pub no_strand : (depths errors : List ℕ) (evidence : EvidenceArrays) → strand false None (arrays [] [] [] [] [] [] []) ≡ numbers_strand absent depths errors evidence
-unfolding only_if
-no_strand depths errors evidence = refl
 
 -- Arrays of 1,024 places each, as a call begins with them.
 abbrev pub zeros : List ℕ

@@ -10,12 +10,17 @@ use Rattle.vanilla_caller.specs.Strand.{arrays}
 use Rattle.byte_numbers.specs.Bytes.{words16}
 use Rattle.molecule_evidence.specs.Evidence.{marks_of, unconverted_of, converted_of}
 use Rattle.duplex_kind.specs.Kind.{Strand, strand}
+use Rattle.molecule_strand.specs.declared.EncodedAnnotation.{EncodedAnnotation}
 use Rattle.molecule_strand.specs.declared.EncodedStrand.{EncodedStrand}
 use Rattle.methylation.specs.declared.ConversionPattern.{ConversionPattern}
 
--- An annotation, where there is one, by the number of its pattern: 0 is C to T, 1 G to A. A number above 1 is refused.
+-- A pattern by its number: 0 is C to T, 1 G to A. A number above 1 is refused.
+abbrev pub pattern_of : ℕ → ConversionPattern
+pattern_of number = cond (eqb number 0) CToT GToA
+
+-- An annotation, where there is one, by the number of its pattern.
 abbrev pub annotation_of : Bool → ℕ → Option ConversionPattern
-annotation_of annotated pattern = cond annotated (Some (cond (eqb pattern 0) CToT GToA)) None
+annotation_of annotated pattern = cond annotated (Some (pattern_of pattern)) None
 
 -- A pattern above 1 is refused, where there is an annotation.
 abbrev pub wrong_pattern : Bool → ℕ → Bool
@@ -41,10 +46,19 @@ strand_bytes present annotation bases quals depths errors evidence = record {
   evidence = evidence;
 }
 
+-- An annotation's pattern, and the bytes of its evidence; without one there is neither.
+abbrev pub pattern_held : Option EncodedAnnotation → Option ConversionPattern
+pattern_held None = None
+pattern_held (Some m) = Some m.pattern
+
+abbrev pub bytes_held : Option EncodedAnnotation → List ℕ
+bytes_held None = []
+bytes_held (Some m) = m.evidence.now
+
 -- As the code has it, where it is there.
 abbrev pub encoded_in : Option EncodedStrand → StrandBytes
 encoded_in None = strand_bytes false None [] [] [] [] []
-encoded_in (Some s) = strand_bytes true s.annotation s.bases.now s.quals.now s.depths.now s.errors.now s.evidence.now
+encoded_in (Some s) = strand_bytes true (pattern_held s.methylation) s.bases.now s.quals.now s.depths.now s.errors.now (bytes_held s.methylation)
 
 -- The strand that the bytes stand for.
 unfoldable pub strand_of : StrandBytes → Strand

@@ -2,11 +2,11 @@
 // duplex_strands, duplex_annotated and duplex_single.
 #![tactic(auto)]
 
-ghost use Rattle.std.specs.Prelude.{◌≡◌, ◌||◌, None, []};
+ghost use Rattle.std.specs.Prelude.{◌||◌, None, []};
 ghost use Rattle.methylation.specs.Choices.{annotation_of, wrong_annotation};
 ghost use Rattle.replies.specs.Choices.{yes};
 ghost use Rattle.replies.specs.Replies.{count_reply, not_counted, PassedOn, RepliedAs};
-ghost use Rattle.vanilla_caller.specs.Strand.{arrays, arrays_in};
+ghost use Rattle.vanilla_caller.specs.Strand.{arrays};
 ghost use Rattle.duplex_molecule.specs.Molecule.{ct_input};
 ghost use Rattle.duplex_molecule.specs.declared.CtInput.TheVariants.{Neither};
 ghost use Rattle.duplex_outputs.specs.Outputs.{record_of};
@@ -20,30 +20,6 @@ use duplex_strands::combine_strands;
 use methylation::{EvidenceOutputs, EvidenceSlices};
 use replies::{Count, annotation_in, annotations_in};
 use vanilla_caller::VanillaConsensusRead;
-
-// A strand without annotation.
-fn unannotated<'a>(
-    bases: &'a [u8],
-    quals: &'a [u8],
-    depths: &'a [u16],
-    errors: &'a [u16],
-) -> VanillaConsensusRead<'a>
-    ensures { arrays_in result ≡ arrays bases.now quals.now depths.now errors.now [] [] [] }
-{
-    let evidence = EvidenceSlices {
-        marks: &[],
-        unconverted: &[],
-        converted: &[],
-    };
-    VanillaConsensusRead {
-        bases,
-        quals,
-        depths,
-        errors,
-        annotation: None,
-        evidence,
-    }
-}
 
 // Combines strands without annotation. Where reads are listed (listed is not 0) the errors are left 0. Refuses by 7, 8, 12.
 #[unsafe(no_mangle)]
@@ -71,8 +47,8 @@ pub extern "C" fn gedrashiw_combine_strands(
         (record_of bases_out.new quals_out.new errors_out.new [] [] [] [] [] [])
         result }
 {
-    let a = unannotated(a_bases, a_quals, a_depths, a_errors);
-    let b = unannotated(b_bases, b_quals, b_depths, b_errors);
+    let a = VanillaConsensusRead::new(a_bases, a_quals, a_depths, a_errors);
+    let b = VanillaConsensusRead::new(b_bases, b_quals, b_depths, b_errors);
     let mut out = RecordOutputs {
         bases: bases_out,
         quals: quals_out,
@@ -121,35 +97,22 @@ pub extern "C" fn gedrashiw_combine_strands_annotated(
         (record_of bases_out.new quals_out.new errors_out.new a_marks_out.new a_unconverted_out.new a_converted_out.new b_marks_out.new b_unconverted_out.new b_converted_out.new)
         result }
 {
-    // No `?`: a function that answers a Result would have this whole contract once more.
+    // No `?`: its function would have this whole contract once more. A closure was tried (rust_padded): of outputs that it takes along
+    // nothing is known where it is not called.
     let (a_annotation, b_annotation) = match annotations_in(a_annotation, b_annotation) {
         Ok(annotations) => annotations,
         Err(refusal) => return Count::from(refusal),
     };
-    let a = VanillaConsensusRead {
-        bases: a_bases,
-        quals: a_quals,
-        depths: a_depths,
-        errors: a_errors,
-        annotation: a_annotation,
-        evidence: EvidenceSlices {
-            marks: a_marks,
-            unconverted: a_unconverted,
-            converted: a_converted,
-        },
-    };
-    let b = VanillaConsensusRead {
-        bases: b_bases,
-        quals: b_quals,
-        depths: b_depths,
-        errors: b_errors,
-        annotation: b_annotation,
-        evidence: EvidenceSlices {
-            marks: b_marks,
-            unconverted: b_unconverted,
-            converted: b_converted,
-        },
-    };
+    let a_evidence = EvidenceSlices::new(a_marks, a_unconverted, a_converted);
+    let a = VanillaConsensusRead::new(a_bases, a_quals, a_depths, a_errors).annotated(
+        a_annotation,
+        a_evidence,
+    );
+    let b_evidence = EvidenceSlices::new(b_marks, b_unconverted, b_converted);
+    let b = VanillaConsensusRead::new(b_bases, b_quals, b_depths, b_errors).annotated(
+        b_annotation,
+        b_evidence,
+    );
     let mut out = RecordOutputs {
         bases: bases_out,
         quals: quals_out,
@@ -193,23 +156,16 @@ pub extern "C" fn gedrashiw_gated_single_strand(
         (record_of bases_out.new quals_out.new errors_out.new marks_out.new unconverted_out.new converted_out.new [] [] [])
         result }
 {
-    // No `?`: a function that answers a Result would have this whole contract once more.
+    // No `?`: its function would have this whole contract once more. A closure was tried (rust_padded): of outputs that it takes along
+    // nothing is known where it is not called.
     let annotation = match annotation_in(annotation) {
         Ok(annotation) => annotation,
         Err(refusal) => return Count::from(refusal),
     };
-    let strand = VanillaConsensusRead {
-        bases,
-        quals,
-        depths,
-        errors,
-        annotation,
-        evidence: EvidenceSlices {
-            marks,
-            unconverted,
-            converted,
-        },
-    };
+    let evidence = EvidenceSlices::new(marks, unconverted, converted);
+    let strand = VanillaConsensusRead::new(bases, quals, depths, errors).annotated(
+        annotation, evidence,
+    );
     let mut out = RecordOutputs {
         bases: bases_out,
         quals: quals_out,

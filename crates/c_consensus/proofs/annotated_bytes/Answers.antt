@@ -5,7 +5,8 @@ use Rattle.molecule_errors.specs.Run.{run_in}
 use Rattle.molecule_strand.specs.Strand.{encoded_in}
 use Rattle.molecule_consensus.specs.Bytes.{seen}
 use Rattle.molecule_consensus.proofs.Ample.{zeros_ample, inputs_alone}
-use Rattle.c_consensus.proofs.Consensus.{zeros, same_annotation, from_arrays}
+use Rattle.molecule_consensus.specs.Molecule.{zero_buffers}
+use Rattle.c_consensus.proofs.Consensus.{same_annotation, from_arrays}
 use Rattle.c_consensus.proofs.annotated_bytes.Goals as goal
 
 pub returns-clause-made : goal.returns-clause-made
@@ -15,8 +16,8 @@ returns-clause-made c =
     let listed = is_some c.args.m.reads in
     let run = run_in c.args.m.reads in
     let left = c.write_record.ensures.written in
-    from_arrays a b listed run _ zeros _ (inputs_alone a b listed run zeros zeros_ample) _
+    from_arrays a b listed run _ zero_buffers _ (inputs_alone a b listed run zero_buffers zeros_ample) _
     (same_annotation (encoded_in c.args.m.a) c.annotation_of.ensures)
     (same_annotation (encoded_in c.args.m.b) c.annotation_of-2.ensures)
-    c.duplex_consensus_of_bytes-made.ensures.made
+    (rw c.zeros-own.ensures at c.duplex_consensus_of_bytes-made.ensures)
     (search (rules, left))

@@ -14,8 +14,8 @@ returns c =
     (strand_bytes (yes g.a_present) (annotation_of (told g.a_present g.a_annotated) g.a_pattern) g.a_bases.now g.a_quals.now g.a_depths.now g.a_errors.now g.a_evidence.now)
     (strand_bytes (yes g.b_present) (annotation_of (told g.b_present g.b_annotated) g.b_pattern) g.b_bases.now g.b_quals.now g.b_depths.now g.b_errors.now g.b_evidence.now)
     (yes g.listed) g.reads c.consensus.result
-    c.strand_told.ensures
-    c.strand_told-2.ensures
+    (rw (c.new-a.ensures.bases, c.new-a.ensures.quals, c.new-a.ensures.depths, c.new-a.ensures.errors) at c.strand_told.ensures)
+    (rw (c.new-b.ensures.bases, c.new-b.ensures.quals, c.new-b.ensures.depths, c.new-b.ensures.errors) at c.strand_told-2.ensures)
     c.then_some.ensures
     (search (rules, c.consensus.ensures.made))
     c.from.ensures

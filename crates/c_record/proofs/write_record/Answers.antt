@@ -1,5 +1,5 @@
 -- `c_record::write_record` meets its contract: refused by row 12, or the front of each array is written. Assumes nothing.
-use mathlib.Core.Path.{refl, sym, ap, ◌∙◌}
+use mathlib.Core.Path.{sym, ap, ◌∙◌}
 use mathlib.Core.List.{List}
 use Prim.Native.Nat.{ℕ, ◌/◌}
 use lib.ListN.{length, take}
@@ -9,23 +9,18 @@ use Rattle.byte_numbers.specs.Bytes.{bytes16}
 use Rattle.c_record.proofs.Outputs.{turned_down, passed_on}
 use Rattle.c_record.proofs.write_record.Goals as goal
 
-pub returns-in_err-made-clause-written : goal.returns-in_err-made-clause-written
-returns-in_err-made-clause-written c =
-    let p = err_from_is_err_and c.from_residual.result c.from_residual.ensures.1 in
-    rw (c.in_err-made.was, p.1, p.2) (refl, refl)
-
 pub returns-in_err-refuse-clause-written : goal.returns-in_err-refuse-clause-written
-returns-in_err-refuse-clause-written c =
+returns-in_err-refuse-clause-written g c =
     let p = err_from_is_err_and c.from_residual-in_err-refuse.result c.from_residual-in_err-refuse.ensures.1 in
     let e = sym c.refuse.ensures ∙ c.in_err-refuse.was in
-    rw (c.in_ok-made.was, p.1, p.2) (turned_down _ _ _ _ (rw (c.record_too_short-short.ensures, c.positions_in-room.ensures, c.written_of-w.ensures) at e))
+    rw (c.in_ok-made.was, p.1) (turned_down _ _ _ _ _ (rw (c.record_too_short-short.ensures, c.positions_in-room.ensures, c.written_of-w.ensures) at e) p.2)
 
 pub returns-clause-written : goal.returns-clause-written
-returns-clause-written c =
+returns-clause-written g c =
     let a = c.args in
     let e = sym c.refuse.ensures ∙ c.in_ok-refuse.was in
     rw c.in_ok-made.was
-    (passed_on _ _ _ _ (rw (c.record_too_short-short.ensures, c.positions_in-room.ensures, c.written_of-w.ensures) at e)
+    (passed_on _ _ _ _ _ (rw (c.record_too_short-short.ensures, c.positions_in-room.ensures, c.written_of-w.ensures) at e)
     record {
       bases = c.copy.ensures ∙ ap (λ (l : List ℕ). put (take (length a.out.now.bases.now) l) a.out.now.bases.now) (rw c.written_of-w.ensures at c.front.ensures);
       quals = c.copy-2.ensures ∙ ap (λ (l : List ℕ). put (take (length a.out.now.quals.now) l) a.out.now.quals.now) (rw c.written_of-w.ensures at c.front-2.ensures);

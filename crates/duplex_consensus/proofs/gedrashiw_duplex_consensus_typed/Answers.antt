@@ -7,18 +7,19 @@ use Rattle.std.proofs.Common.{Ok, Err, rules}
 use Rattle.methylation.specs.Choices.{annotation_of}
 use Rattle.replies.specs.Choices.{yes}
 use Rattle.replies.proofs.Replied.{turned_down, passed_on}
-use Rattle.vanilla_caller.specs.Strand.{arrays}
+use Rattle.vanilla_caller.specs.Strand.{arrays, arrays_seen}
 use Rattle.duplex_molecule.specs.declared.CtInput.{CtInput}
 use Rattle.methylation.specs.Outputs.{evidence_out}
 use Rattle.duplex_outputs.specs.Lent.{record_out}
 use Rattle.duplex_outputs.specs.Outputs.{RecordArrays, record_of}
 use Rattle.duplex_kind.specs.Kind.{strand, given_of}
-use Rattle.duplex_consensus.specs.Consensus.{ConsensusAs}
+use Rattle.duplex_consensus.specs.Consensus.{ConsensusAs, given_in}
 use Rattle.duplex_reply.specs.Reply.{record_for, no_record}
+use Rattle.duplex_reply.proofs.Strand.{told_as}
 use Rattle.duplex_reply.specs.Strand.{told_by, strand_by, wrong_strand}
 use Rattle.source_reads.specs.Reads.{any_leaves, counted_errors}
 use Rattle.duplex_consensus.proofs.Made.{counted_as}
-use Rattle.duplex_consensus.proofs.Replied.{refused_in, read_in, numbered}
+use Rattle.duplex_consensus.proofs.Replied.{refused_in, read_in, given_by, numbered}
 use Rattle.duplex_consensus.proofs.gedrashiw_duplex_consensus_typed.Goals as goal
 
 pub returns : goal.returns
@@ -27,10 +28,10 @@ returns c =
     let x = arrays a.a_bases.now a.a_quals.now a.a_depths.now a.a_errors.now a.a_marks.now a.a_unconverted.now a.a_converted.now in
     let y = arrays a.b_bases.now a.b_quals.now a.b_depths.now a.b_errors.now a.b_marks.now a.b_unconverted.now a.b_converted.now in
     let r = c.duplex_record-made.new in
-    let told_a : strand_by a.a_present a.a_annotation x ≡ Ok (given_of c.in-Ok.a) = sym c.strand_in.ensures ∙ ap told_by c.in-Ok.is in
-    let told_b : strand_by a.b_present a.b_annotation y ≡ Ok (given_of c.in-Ok-strand_in.b) = sym c.strand_in-2.ensures ∙ ap told_by c.in-Ok-strand_in.is in
+    let told_a : strand_by a.a_present a.a_annotation (arrays_seen (annotation_of a.a_annotation) x) ≡ Ok (given_of c.in-Ok.a) = sym (told_as a.a_present a.a_annotation c.new-a.result c.new-a_evidence.result c.strand_in.ensures c.new-a.ensures.arrays c.new-a_evidence.ensures) ∙ ap told_by c.in-Ok.is in
+    let told_b : strand_by a.b_present a.b_annotation (arrays_seen (annotation_of a.b_annotation) y) ≡ Ok (given_of c.in-Ok-strand_in.b) = sym (told_as a.b_present a.b_annotation c.new-b.result c.new-b_evidence.result c.strand_in-2.ensures c.new-b.ensures.arrays c.new-b_evidence.ensures) ∙ ap told_by c.in-Ok-strand_in.is in
     let ct = rw (c.annotation_of.ensures, c.annotation_of-2.ensures) at c.ct_input.ensures in
-    let made = numbered a.a_present a.a_annotation a.b_present a.b_annotation x y (yes a.listed) (length a.reads.now) (any_leaves (length a.bytes.now) a.reads.now) told_a told_b c.given_list-list.ensures c.duplex_record-made.ensures.made in
+    let made = numbered a.a_present a.a_annotation a.b_present a.b_annotation x y (yes a.listed) (length a.reads.now) (any_leaves (length a.bytes.now) a.reads.now) told_a told_b (c.given_list-list.ensures ∙ ap given_in c.then_some.ensures ∙ given_by (yes a.listed) _) c.duplex_record-made.ensures.made in
     let counted =
     counted_as (strand (yes a.a_present) (annotation_of a.a_annotation) x) (strand (yes a.b_present) (annotation_of a.b_annotation) y) (yes a.listed) a.reads.now a.bytes.now
     (record_of a.bases_out.now a.quals_out.now a.errors_out.now a.a_marks_out.now a.a_unconverted_out.now a.a_converted_out.now a.b_marks_out.now a.b_unconverted_out.now a.b_converted_out.now)
@@ -39,7 +40,7 @@ returns c =
     (c.count_read_errors.ensures
     ∙ ap (λ (t : CtInput). counted_errors a.reads.now a.bytes.now t c.counted_positions.result a.a_bases.now a.a_quals.now a.b_bases.now a.b_quals.now r.out.errors.now) ct) in
     let right : (wrong_strand a.a_present a.a_annotation || wrong_strand a.b_present a.b_annotation) ≡ false =
-    rw (read_in a.a_present a.a_annotation x told_a, read_in a.b_present a.b_annotation y told_b) in
+    rw (read_in a.a_present a.a_annotation _ told_a, read_in a.b_present a.b_annotation _ told_b) in
     let done = passed_on {Outputs = RecordArrays} {broken = no_record 13} {reply = record_for} {As = ConsensusAs (strand (yes a.a_present) (annotation_of a.a_annotation) x) (strand (yes a.b_present) (annotation_of a.b_annotation) y) (yes a.listed) a.reads.now a.bytes.now} c.duplex_record-made.result right c.from-2.ensures counted in
     search (rules, done)
 
@@ -48,9 +49,9 @@ returns-in-Err-strand_in c =
     let a = c.args in
     let x = arrays a.a_bases.now a.a_quals.now a.a_depths.now a.a_errors.now a.a_marks.now a.a_unconverted.now a.a_converted.now in
     let y = arrays a.b_bases.now a.b_quals.now a.b_depths.now a.b_errors.now a.b_marks.now a.b_unconverted.now a.b_converted.now in
-    let told_a : strand_by a.a_present a.a_annotation x ≡ Ok (given_of c.in-Ok.a) = sym c.strand_in.ensures ∙ ap told_by c.in-Ok.is in
-    let told_b : strand_by a.b_present a.b_annotation y ≡ Err c.in-Err-strand_in.refusal = sym c.strand_in-2.ensures ∙ ap told_by c.in-Err-strand_in.is in
-    let (wrong, broken) = refused_in a.b_present a.b_annotation y told_b in
+    let told_a : strand_by a.a_present a.a_annotation (arrays_seen (annotation_of a.a_annotation) x) ≡ Ok (given_of c.in-Ok.a) = sym (told_as a.a_present a.a_annotation c.new-a.result c.new-a_evidence.result c.strand_in.ensures c.new-a.ensures.arrays c.new-a_evidence.ensures) ∙ ap told_by c.in-Ok.is in
+    let told_b : strand_by a.b_present a.b_annotation (arrays_seen (annotation_of a.b_annotation) y) ≡ Err c.in-Err-strand_in.refusal = sym (told_as a.b_present a.b_annotation c.new-b.result c.new-b_evidence.result c.strand_in-2.ensures c.new-b.ensures.arrays c.new-b_evidence.ensures) ∙ ap told_by c.in-Err-strand_in.is in
+    let (wrong, broken) = refused_in a.b_present a.b_annotation _ told_b in
     let met : (wrong_strand a.a_present a.a_annotation || wrong_strand a.b_present a.b_annotation) ≡ true =
-    rw (read_in a.a_present a.a_annotation x told_a, wrong) in
+    rw (read_in a.a_present a.a_annotation _ told_a, wrong) in
     turned_down met (rw broken at c.from-in-Err-strand_in.ensures)

@@ -1,6 +1,0 @@
--- `molecule_strand::read_numbers` meets its contract: of an absent strand nothing is read. Assumes nothing.
-use Rattle.molecule_strand.proofs.Strand.{nothing_read}
-use Rattle.molecule_strand.proofs.read_numbers.Goals as goal
-
-pub returns-in_default : goal.returns-in_default
-returns-in_default c = rw c.in_default.is (nothing_read _ _)
