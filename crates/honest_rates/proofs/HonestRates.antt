@@ -32,8 +32,8 @@ use Rattle.duplex_metrics.specs.declared.MetricsRecord.{MetricsRecord}
 use Rattle.duplex_metrics.proofs.Returned.{record_is}
 use Rattle.metrics_bits.specs.Bits.{in_bits, metrics_words}
 use Rattle.metrics_bits.specs.declared.MetricsBits.{MetricsBits}
-use Rattle.c_metrics.specs.Bytes.{MetricsEntry, seen, decoded, entry_refused, record_words, metrics_bytes}
-use Rattle.c_metrics.proofs.Bytes.{clear}
+use Rattle.c_metrics.specs.Bytes.{MetricsAs, MetricsEntry, seen, decoded, entry_refused, record_words, metrics_bytes}
+use Rattle.c_metrics.proofs.Bytes.{clear, no_refusal}
 use Rattle.replies.specs.Choices.{yes}
 use Rattle.rust_metrics.specs.Answers.{metrics_reply}
 use Rattle.rust_metrics.specs.declared.MetricsReply.{MetricsReply}
@@ -106,25 +106,23 @@ in_place out aE = number_of (take 4 (drop 8 out))
 in_place out bE = number_of (take 4 (drop 20 out))
 in_place out cE = number_of (take 4 (drop 32 out))
 
--- No refusal has the number 0.
-not_refused : (row : Option Refusal) → number_or_0 row ≡ 0 → row ≡ None
-not_refused None z = refl
-not_refused (Some row) z = absurd (eqb-false (row_number row) 0 (numbered_from_1 row) z)
-
-module _ (x : Input) (before after : List ℕ) (e : MetricsEntry (seen x) before after 0) where
+module _ (x : Input) (before after : List ℕ) (e : MetricsAs x before after (Ok tt)) where
   abbrev y : Input
-  y = decoded (seen x)
+  y = decoded x
 
   abbrev made : MetricsRecord
   made = record_of y
 
+  passed : entry_refused x before ≡ None
+  passed = no_refusal (entry_refused x before) (sym e.answered)
+
   is_record : metrics_of y ≡ Ok made
-  is_record = ap (λ (row : Option Refusal). answer row (record_of y)) (clear (seen x) before (sym e.answered)).0
+  is_record = ap (λ (row : Option Refusal). answer row (record_of y)) (clear x before (ap number_or_0 passed)).0
 
   output_is : after ≡ put (bytes32 (record_words (in_bits made))) before
   output_is =
       e.left
-      ∙ ap (λ (row : Option Refusal). left_after row (metrics_bytes (metrics_words (metrics_of y))) before) (not_refused (entry_refused (seen x) before) (sym e.answered))
+      ∙ ap (λ (row : Option Refusal). left_after row (metrics_bytes (metrics_words (metrics_of y))) before) passed
       ∙ ap (λ (m : Result MetricsRecord Refusal). put (metrics_bytes (metrics_words m)) before) is_record
 
   words_are : metrics_words (metrics_of y) ≡ Ok (in_bits made)
@@ -136,7 +134,23 @@ module _ (x : Input) (before after : List ℕ) (e : MetricsEntry (seen x) before
   place_word bE = ap (λ (l : List ℕ). in_place l bE) output_is ∙ word_at (record_words (in_bits made)) before 5 (omega arith) (small y (in_bits made) words_are bE)
   place_word cE = ap (λ (l : List ℕ). in_place l cE) output_is ∙ word_at (record_words (in_bits made)) before 8 (omega arith) (small y (in_bits made) words_are cE)
 
-  same_arrays : from_numbers y ≡ from_bytes x.a x.a_errors x.second x.b x.b_errors x.errors
+  place_bits : (p : Rate) → in_place after p ≡ behind (from_bytes x.a x.a_errors x.second x.b x.b_errors x.errors) p
+  place_bits p = place_word p ∙ word_bits y (in_bits made) words_are p
+
+-- No refusal has the number 0.
+not_refused : (row : Option Refusal) → number_or_0 row ≡ 0 → row ≡ None
+not_refused None z = refl
+not_refused (Some row) z = absurd (eqb-false (row_number row) 0 (numbered_from_1 row) z)
+
+-- For C: an answer as a number, and of an absent second strand nothing is looked at.
+module _ (x : Input) (before after : List ℕ) (e : MetricsEntry (seen x) before after 0) where
+  accepted : MetricsAs (seen x) before after (Ok tt)
+  accepted = record {
+    answered = ap (λ (row : Option Refusal). answer {A = Unit {0}} row tt) (sym (not_refused (entry_refused (seen x) before) (sym e.answered)));
+    left = e.left;
+  }
+
+  same_arrays : from_numbers (decoded (seen x)) ≡ from_bytes x.a x.a_errors x.second x.b x.b_errors x.errors
   unfolding only_if
   same_arrays = ap₂ (λ (b be : List ℕ). measured (words16 x.a) (words16 x.a_errors) b be (words16 x.errors)) (go x.second x.b) (go x.second x.b_errors)
     where
@@ -144,8 +158,8 @@ module _ (x : Input) (before after : List ℕ) (e : MetricsEntry (seen x) before
       go true l = refl
       go false l = refl
 
-  place_bits : (p : Rate) → in_place after p ≡ behind (from_bytes x.a x.a_errors x.second x.b x.b_errors x.errors) p
-  place_bits p = place_word p ∙ word_bits y (in_bits made) words_are p ∙ ap (λ (m : Measured). behind m p) same_arrays
+  entry_bits : (p : Rate) → in_place after p ≡ behind (from_bytes x.a x.a_errors x.second x.b x.b_errors x.errors) p
+  entry_bits p = place_bits (seen x) before after accepted p ∙ ap (λ (m : Measured). behind m p) same_arrays
 
 -- ---- A reply
 
@@ -213,9 +227,9 @@ behind_bits (as_bits x r e) cE = word_bits x r (sym e) cE
 behind_bits (in_bytes x before after e) aE = place_bits x before after e aE
 behind_bits (in_bytes x before after e) bE = place_bits x before after e bE
 behind_bits (in_bytes x before after e) cE = place_bits x before after e cE
-behind_bits (for_c a ae second b be bases errors before after e) aE = place_bits (input a ae (yes second) b be bases errors) before after e aE
-behind_bits (for_c a ae second b be bases errors before after e) bE = place_bits (input a ae (yes second) b be bases errors) before after e bE
-behind_bits (for_c a ae second b be bases errors before after e) cE = place_bits (input a ae (yes second) b be bases errors) before after e cE
+behind_bits (for_c a ae second b be bases errors before after e) aE = entry_bits (input a ae (yes second) b be bases errors) before after e aE
+behind_bits (for_c a ae second b be bases errors before after e) bE = entry_bits (input a ae (yes second) b be bases errors) before after e bE
+behind_bits (for_c a ae second b be bases errors before after e) cE = entry_bits (input a ae (yes second) b be bases errors) before after e cE
 behind_bits (in_reply a ae second b be bases errors r e z) aE = reply_bits (input a ae (yes second) b be bases errors) r e z aE
 behind_bits (in_reply a ae second b be bases errors r e z) bE = reply_bits (input a ae (yes second) b be bases errors) r e z bE
 behind_bits (in_reply a ae second b be bases errors r e z) cE = reply_bits (input a ae (yes second) b be bases errors) r e z cE

@@ -19,7 +19,7 @@ use Rattle.duplex_metrics.specs.Metrics.{Input, input, metrics_of}
 use Rattle.duplex_metrics.specs.declared.MetricsRecord.{MetricsRecord}
 use Rattle.metrics_bits.specs.Bits.{metrics_words}
 use Rattle.metrics_bits.specs.declared.MetricsBits.{MetricsBits}
-use Rattle.c_metrics.specs.Bytes.{MetricsEntry, seen}
+use Rattle.c_metrics.specs.Bytes.{MetricsAs, MetricsEntry, seen}
 use Rattle.replies.specs.Choices.{yes}
 use Rattle.rust_metrics.specs.Answers.{metrics_reply}
 use Rattle.rust_metrics.specs.declared.MetricsReply.{MetricsReply}
@@ -50,7 +50,7 @@ pub data Returned : Type 0 where
   -- `metrics_bits`
   as_bits : (given : Input) (r : MetricsBits) → Ok r ≡ metrics_words (metrics_of given) → Returned
   -- `metrics_of_bytes`, accepted: arrays as bytes, its output before the call and after it
-  in_bytes : (given : Input) (before after : List ℕ) → MetricsEntry (seen given) before after 0 → Returned
+  in_bytes : (given : Input) (before after : List ℕ) → MetricsAs given before after (Ok tt) → Returned
   -- `gedrashiw_metrics`, accepted
   for_c :
       (a a_errors : List ℕ) (second : ℕ) (b b_errors bases errors before after : List ℕ)

@@ -1,7 +1,7 @@
 -- The errors of a run's reads by its fields: `each_counted`, of specs/Counted.antt. Assumes nothing.
 use mathlib.Core.Path.{◌≡◌, refl, sym, ap, ◌∙◌}
-use mathlib.Core.Bool.{Bool, true, false, ◌&&◌, ◌||◌, true≢false}
-use mathlib.Core.List.{List, [], ◌∷◌, map, foldl}
+use mathlib.Core.Bool.{Bool, true, false, ◌&&◌}
+use mathlib.Core.List.{List, [], ◌∷◌, map}
 use Prim.Native.Nat.{ℕ, ◌+◌, ◌≤◌, ◌<◌, min}
 use native.Mathlib.Omega.{arith}
 use borrow.Author.Tests.{ltb-true}
@@ -12,6 +12,7 @@ use Rattle.lists.specs.Count.{count_of}
 use Rattle.lists.specs.Part.{part}
 use Rattle.lists.proofs.Count.{count_cons}
 use Rattle.lists.proofs.Parts.{stays}
+use Rattle.refusals.proofs.Condition.{neither}
 use Rattle.flags.specs.Flags.{is_set}
 use Rattle.duplex_molecule.specs.Molecule.{is_error}
 use Rattle.source_reads.specs.Reads.{read_leaves, any_leaves, reaches, read_error, read_errors}
@@ -26,15 +27,7 @@ use Rattle.line_claims.specs.Counted.{field_error, expected_of, EachCounted}
 -- A read within its buffer, and those after it.
 both_stay : (n : ℕ) (read : SourceRead) (reads : List SourceRead) → any_leaves n (read ∷ reads) ≡ false → (read_leaves n read ≡ false) × (any_leaves n reads ≡ false)
 unfolding any_leaves
-both_stay n read reads e = go (read_leaves n read) refl e
-  where
-    met : (rs : List SourceRead) → foldl (λ m r. m || read_leaves n r) true rs ≡ true
-    met [] = refl
-    met (r ∷ rs) = met rs
-
-    go : (b : Bool) → read_leaves n read ≡ b → foldl (λ m r. m || read_leaves n r) b reads ≡ false → (b ≡ false) × (foldl (λ m r. m || read_leaves n r) false reads ≡ false)
-    go true l e = absurd (true≢false (sym (met reads) ∙ e))
-    go false l e = (refl, e)
+both_stay n read reads e = neither (read_leaves n read) (any_leaves n reads) e
 
 module _ (run : List ℕ) (expected : Bool → ℕ) (i : ℕ) where
   -- An error by what is shown.

@@ -56,6 +56,10 @@ none_text = header ++ ascii "none\n"
 unfoldable pub refused_text : ℕ → List ℕ
 refused_text n = ascii "refused " ++ decimal n ++ ascii "\n"
 
+-- A text of at most LINE_BYTES.
+abbrev pub Fits : List ℕ → Type 0
+Fits text = length text ≤ 12288
+
 -- At most 1,024 positions.
 pub record Short (c : Columns) : Type 0 where
   pub bases : length c.bases ≤ 1024

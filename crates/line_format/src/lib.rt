@@ -3,12 +3,13 @@
 #![tactic(auto)]
 
 ghost use Rattle.std.specs.Prelude.{◌≤◌, length};
-ghost use Rattle.line_output.specs.Text.{Written, Appended};
+ghost use Rattle.line_output.specs.Text.{Written};
+ghost use Rattle.line_output.specs.Writer.{Writes};
 ghost use Rattle.line_metrics.specs.MetricsText.{metrics_text};
-ghost use Rattle.line_format.specs.Line.{columns_in, kind_text, gate_text, columns_text, opening, closing, line_text, none_text, refused_text, Short, Typed};
+ghost use Rattle.line_format.specs.Line.{columns_in, kind_text, gate_text, columns_text, opening, closing, line_text, none_text, refused_text, Fits, Short, Typed};
 
 use line_metrics::write_metrics;
-use line_output::{write_number, write_printed, write_text, write_u8s, write_u16s};
+use line_output::Writer;
 use metrics_bits::MetricsBits;
 
 // What stands above each record.
@@ -34,60 +35,63 @@ pub struct RecordColumns<'a> {
     pub errors: &'a [u16],
 }
 
-fn write_kind(kind: Kind, out: &mut [u8], at: usize) -> usize
-    ensures { Appended (kind_text kind) at out.old out.new result }
+#[tactic(auto, unfolding(crate::specs::Line::kind_text))]
+fn write_kind(kind: Kind, to: &mut Writer<'_>)
+    ensures { Writes (kind_text kind) to.old to.new }
 {
     match kind {
-        Kind::Ab => write_text(b"ab", out, at),
-        Kind::Ba => write_text(b"ba", out, at),
-        Kind::Both => write_text(b"both", out, at),
+        Kind::Ab => to.write_text(b"ab"),
+        Kind::Ba => to.write_text(b"ba"),
+        Kind::Both => to.write_text(b"both"),
     }
 }
 
 // The consensus gate's outcome, with a blank on each side.
-fn write_gate(kept: bool, out: &mut [u8], at: usize) -> usize
-    ensures { Appended (gate_text kept) at out.old out.new result }
+#[tactic(auto, unfolding(crate::specs::Line::gate_text))]
+fn write_gate(kept: bool, to: &mut Writer<'_>)
+    ensures { Writes (gate_text kept) to.old to.new }
 {
     if kept {
-        return write_text(b" kept ", out, at);
+        to.write_text(b" kept ");
+    } else {
+        to.write_text(b" below ");
     }
-    write_text(b" below ", out, at)
 }
 
 // The header, and a line up to its columns.
-fn write_opening(kind: Kind, kept: bool, out: &mut [u8]) -> usize
-    ensures { Appended (opening kind kept) 0 out.old out.new result }
+fn write_opening(kind: Kind, kept: bool, to: &mut Writer<'_>)
+    ensures { Writes (opening kind kept) to.old to.new }
 {
-    let above = HEADER;
-    let at = write_text(&above, out, 0);
-    let at = write_kind(kind, out, at);
-    write_gate(kept, out, at)
+    to.write_text(&HEADER);
+    write_kind(kind, to);
+    write_gate(kept, to);
 }
 
 // The consensus positions.
-fn write_columns(row: RecordColumns, out: &mut [u8], at: usize) -> usize
-    ensures appended { Appended (columns_text (columns_in row.entry)) at out.old out.new result }
+fn write_columns(row: RecordColumns, to: &mut Writer<'_>)
+    ensures written { Writes (columns_text (columns_in row.entry)) to.old to.new }
     ensures typed { Typed (columns_in row.entry) }
 {
-    let at = write_printed(row.bases, out, at);
-    let at = write_text(b" ", out, at);
-    let at = write_u8s(row.quals, out, at);
-    let at = write_text(b" ", out, at);
-    write_u16s(row.errors, out, at)
+    to.write_printed(row.bases);
+    to.write_text(b" ");
+    to.write_u8s(row.quals);
+    to.write_text(b" ");
+    to.write_u16s(row.errors);
 }
 
 // The end of a line, after its columns.
-fn write_closing(metrics: MetricsBits, out: &mut [u8], at: usize) -> usize
-    ensures appended { Appended (closing metrics) at out.old out.new result }
+fn write_closing(metrics: MetricsBits, to: &mut Writer<'_>)
+    ensures written { Writes (closing metrics) to.old to.new }
     ensures metrics_len_bound { length (metrics_text metrics) ≤ 104 }
 {
-    let at = write_metrics(metrics, out, at);
-    write_text(b"\n", out, at)
+    write_metrics(metrics, to);
+    to.write_text(b"\n");
 }
 
 // Each of these writes as much of its text as there is room for to the front of out, and answers how many bytes that is.
 
 // The header and the line of a record. That of a record with at most 1,024 positions has at most LINE_BYTES.
+#[tactic(auto, using(crate::proofs::Line::line_most))]
 pub fn write_record(
     kind: Kind,
     kept: bool,
@@ -96,29 +100,36 @@ pub fn write_record(
     out: &mut [u8],
 ) -> usize
     ensures written { Written (line_text kind kept (columns_in row.entry) metrics) out.old out.new result }
-    ensures metrics_len_bound { Short (columns_in row.entry) → length (line_text kind kept (columns_in row.entry) metrics) ≤ 12288 }
+    ensures metrics_len_bound { Short (columns_in row.entry) → Fits (line_text kind kept (columns_in row.entry) metrics) }
 {
-    let at = write_opening(kind, kept, out);
-    let at = write_columns(row, out, at);
-    write_closing(metrics, out, at)
+    let mut to = Writer::new(out, 0);
+    write_opening(kind, kept, &mut to);
+    write_columns(row, &mut to);
+    write_closing(metrics, &mut to);
+    to.at
 }
 
 // The header, and that there is no record.
+#[tactic(auto, using(crate::proofs::Line::none_most))]
 pub fn write_none(out: &mut [u8]) -> usize
     ensures written { Written none_text out.old out.new result }
-    ensures none_text_len_bound { length none_text ≤ 12288 }
+    ensures none_text_len_bound { Fits none_text }
 {
-    let above = HEADER;
-    let at = write_text(&above, out, 0);
-    write_text(b"none\n", out, at)
+    let mut to = Writer::new(out, 0);
+    to.write_text(&HEADER);
+    to.write_text(b"none\n");
+    to.at
 }
 
 // A refusal, with no header. Any number is taken: a Refusal would ask more of callers.
+#[tactic(auto, using(crate::proofs::Line::refused_most))]
 pub fn write_refused(number: u8, out: &mut [u8]) -> usize
     ensures written { Written (refused_text number) out.old out.new result }
-    ensures number_len_bound { length (refused_text number) ≤ 12288 }
+    ensures number_len_bound { Fits (refused_text number) }
 {
-    let at = write_text(b"refused ", out, 0);
-    let at = write_number(number as u64, out, at);
-    write_text(b"\n", out, at)
+    let mut to = Writer::new(out, 0);
+    to.write_text(b"refused ");
+    to.write_number(u64::from(number));
+    to.write_text(b"\n");
+    to.at
 }

@@ -1,10 +1,7 @@
--- The evidence in an annotation's value, and a molecule's strands and reads. Assumes nothing.
+-- A molecule's strands and reads. Assumes nothing.
 use mathlib.Core.Path.{◌≡◌}
-use mathlib.Core.List.{List, [], ◌∷◌}
-use Prim.Native.Nat.{ℕ, ◌-◌, min}
-use native.Mathlib.Omega.{arith}
-use lib.ListN.{length, take, drop}
-use lib.Seq.{take_all}
+use mathlib.Core.List.{List}
+use Prim.Native.Nat.{ℕ}
 use denote.Ref.{Bor}
 use Rattle.std.proofs.Common.{Option, None, Some}
 use Rattle.std.specs.Prelude.{is_some}
@@ -16,11 +13,6 @@ use Rattle.line_record.specs.Line.{Holds}
 use Rattle.line_record.specs.declared.Line.{Line}
 use Rattle.line_strands.specs.Strands.{strands_text}
 use Rattle.line_molecule.specs.Line.{value_or, strand_in, parts_of, read_text}
-
--- All behind the first byte, where there is one.
-pub behind_first : (xs : List ℕ) {from : ℕ} → from ≡ min (length xs) 1 → take (length xs - from) (drop from xs) ≡ drop 1 xs
-behind_first [] {from} e = let none : from ≡ 0 = omega arith in rw none
-behind_first (x ∷ xs) {from} e = let one : from ≡ 1 = omega arith in rw one (take_all (length (x ∷ xs) - 1) xs (omega arith))
 
 -- The text for a molecule's strands and reads, from those of the code.
 pub read_is :

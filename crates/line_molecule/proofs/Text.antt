@@ -4,13 +4,18 @@ use mathlib.Core.List.{List}
 use Prim.Native.Nat.{ℕ, ◌≤◌}
 use native.Mathlib.Omega.{arith}
 use lib.ListN.{length, replicate, length-replicate}
-use Rattle.std.proofs.Common.{Result}
+use Rattle.std.proofs.Common.{Result, Ok, Err}
+use Rattle.std.specs.Result.{MatchResult}
 use Rattle.refusals.specs.declared.Refusal.{Refusal}
+use Rattle.refusals.specs.Refusal.{number_of}
 use Rattle.molecule_encoding.specs.Format.{MoleculeParts, decoded}
+use Rattle.molecule_encoding.specs.Parts.{molecule_in}
+use Rattle.molecule_encoding.specs.declared.Molecule.{Molecule}
+use Rattle.line_format.specs.Line.{refused_text}
 use Rattle.line_output.proofs.Text.{same_size, whole}
 use Rattle.line_record.specs.Line.{Holds}
 use Rattle.line_record.specs.declared.Line.{Line}
-use Rattle.line_molecule.specs.Line.{decoded_text, text_of, TextIn}
+use Rattle.line_molecule.specs.Line.{molecule_text, decoded_text, text_of, TextIn, parts_of}
 
 text_in : (text : List ℕ) (r : Line) → Holds text r → TextIn text r
 text_in text r h =
@@ -21,3 +26,13 @@ text_in text r h =
 pub by_decoded : (bytes : List ℕ) {d : Result MoleculeParts Refusal} {r : Line} → d ≡ decoded bytes → Holds (decoded_text d) r → TextIn (text_of bytes) r
 unfolding text_of
 by_decoded bytes {d} {r} e h = text_in (decoded_text (decoded bytes)) r (subst (λ (x : Result MoleculeParts Refusal). Holds (decoded_text x) r) e h)
+
+-- A molecule's text, or the refusal's, by which of the two was asked for.
+pub by_answer :
+    {P : Molecule → Type 0} {Q : Refusal → Type 0} (d : Result Molecule Refusal) {r : Line}
+    → MatchResult d P Q
+    → ((m : Molecule) → P m → Holds (molecule_text (parts_of m)) r)
+    → ((refusal : Refusal) → Q refusal → Holds (refused_text (number_of refusal)) r)
+    → Holds (decoded_text (molecule_in d)) r
+by_answer (Ok m) h f g = f m h
+by_answer (Err refusal) h f g = g refusal h

@@ -3,9 +3,9 @@
 // line_strands.
 #![tactic(auto)]
 
-ghost use Rattle.std.specs.Prelude.{◌≡◌, drop};
+ghost use Rattle.std.specs.Prelude.{◌≡◌, drop, get_or};
 ghost use Rattle.molecule_encoding.specs.Parts.{parts_in};
-ghost use Rattle.molecule_strand.specs.Strand.{encoded_in};
+ghost use Rattle.molecule_strand.specs.Strand.{pattern_of, encoded_in};
 ghost use Rattle.line_record.specs.Line.{Holds};
 ghost use Rattle.line_molecule.specs.Line.{strand_in, parts_of, molecule_text, text_of, TextIn};
 
@@ -15,7 +15,7 @@ use line_strands::strands_line;
 use lists::get_or;
 use molecule_consensus::EncodedMolecule;
 use molecule_encoding::{Molecule, StrandFields, read_molecule};
-use molecule_strand::{EncodedStrand, annotation_of};
+use molecule_strand::{EncodedAnnotation, EncodedStrand, pattern_of};
 
 // The evidence in an annotation's value: all after the pattern.
 fn evidence_of(value: &[u8]) -> &[u8]
@@ -25,20 +25,27 @@ fn evidence_of(value: &[u8]) -> &[u8]
     &value[from..]
 }
 
-// A strand of a molecule. An annotation's value is its pattern byte and then the evidence.
+// An annotation's value is its pattern byte and then the evidence.
+fn annotation_of<'a>(value: &'a [u8]) -> EncodedAnnotation<'a>
+    ensures pattern { result.pattern ≡ pattern_of (get_or value.now 0 0) }
+    ensures evidence { result.evidence.now ≡ drop 1 value.now }
+{
+    EncodedAnnotation {
+        pattern: pattern_of(get_or(value, 0, 0)),
+        evidence: evidence_of(value),
+    }
+}
+
+// A strand of a molecule.
 fn strand_of<'a>(s: Option<StrandFields<'a>>) -> Option<EncodedStrand<'a>>
     ensures { encoded_in result ≡ strand_in (parts_in s.entry) }
 {
-    s.map(|s| {
-        let value = s.annotation.unwrap_or(&[]);
-        EncodedStrand {
-            annotation: annotation_of(s.annotation.is_some(), get_or(value, 0, 0)),
-            bases: s.bases,
-            quals: s.quals,
-            depths: s.depths,
-            errors: s.errors,
-            evidence: evidence_of(value),
-        }
+    s.map(|s| EncodedStrand {
+        bases: s.bases,
+        quals: s.quals,
+        depths: s.depths,
+        errors: s.errors,
+        methylation: s.annotation.map(annotation_of),
     })
 }
 
@@ -52,25 +59,20 @@ fn molecule_line(m: Molecule) -> Line
     byte_numbers::read(values, &mut thresholds);
     let count = (values.len() / 4).min(4);
     let min_reads = &thresholds[0..count];
-    match validate_min_reads(min_reads) {
-        Ok(_) => {
-            let encoded = EncodedMolecule {
-                a: strand_of(m.a),
-                b: strand_of(m.b),
-                reads: m.reads,
-            };
-            strands_line(encoded, min_reads)
-        }
-        Err(refusal) => refused_line(refusal.number()),
+    if let Err(refusal) = validate_min_reads(min_reads) {
+        return refused_line(refusal.number());
     }
+    let encoded = EncodedMolecule {
+        a: strand_of(m.a),
+        b: strand_of(m.b),
+        reads: m.reads,
+    };
+    strands_line(encoded, min_reads)
 }
 
 // The text for the bytes of an encoded molecule.
 pub fn duplex_line(bytes: &[u8]) -> Line
     ensures { TextIn (text_of bytes.now) result }
 {
-    match read_molecule(bytes) {
-        Ok(m) => molecule_line(m),
-        Err(refusal) => refused_line(refusal.number()),
-    }
+    read_molecule(bytes).map_or_else(|refusal| refused_line(refusal.number()), molecule_line)
 }

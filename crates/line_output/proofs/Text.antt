@@ -1,11 +1,11 @@
 -- Laws of written texts and of lists with commas.
---     within, same_size          what is written lies within the output, whose length stays
---     whole, front               where there is room, all of the text is written, and read back there
---     sized                      a writer that answers its text's length, whatever the room
---     placed                     a text written to the part of the output from a place on
---     then                       one text written right behind another
---     comma_next, item_most      what one more number adds to a list, and how many bytes that is
---     Listing                    the invariant of a loop that writes a list: begin, turn, done
+--     same_size              the output's length stays
+--     whole                  where there is room, all of the text is written
+--     placed                 a text written to the part of the output from a place on
+--     then                   one text written right behind another
+--     item_later             what a number that is not the first adds to a list
+--     Listing                the invariant of a loop that writes a list: begin, turn
+--     length_printed, printed_at       bytes as they are printed
 -- Assumes nothing.
 use mathlib.Core.Path.{◌≡◌, refl, sym, ap, ◌∙◌}
 use mathlib.Core.List.{List, [], ◌∷◌, ◌++◌, append-nil, append_assoc}
@@ -21,19 +21,15 @@ use Rattle.lists.proofs.Output.{length_put, put_fitting, copy_next, put_take, pu
 use Rattle.decimal.specs.Decimal.{decimal, listed}
 use Rattle.decimal.proofs.Decimal.{few_digits, listed_append}
 use Rattle.line_output.specs.Text.{comma_list, item, visible, printed, Written, Appended}
+use Rattle.line_output.specs.Writer.{Writes}
+use Rattle.line_output.specs.declared.Writer.{Writer}
 
 module _ {text out after : List ℕ} {r : ℕ} (w : Written text out after r) where
-  pub within : r ≤ length out
-  within = omega (arith, w.count)
-
   pub same_size : length after ≡ length out
   same_size = ap length w.bytes ∙ length_put (take (length out) text) out (omega (arith, length-take (length out) text))
 
   pub whole : length text ≤ length out → (r ≡ length text) × (after ≡ put text out)
   whole room = (omega (arith, w.count), w.bytes ∙ put_fitting text out room)
-
-  pub front : length text ≤ length out → take r after ≡ text
-  front room = front_of text out (whole room).1 (whole room).0
 
 -- Of two texts, as much of the second is within the first n bytes as the first leaves room for.
 take_both : (n : ℕ) (s t : List ℕ) → take n (s ++ t) ≡ take n s ++ take (n - length (take n s)) t
@@ -62,29 +58,20 @@ join {s} {t} {out} {L} {Y} {a} {n} u v =
       bytes = copy_next first out room u.bytes here (omega (arith, u.count)) (take room t) (omega (arith, length-take room t)) second ∙ ap (λ (l : List ℕ). put l out) (ap (λ (k : ℕ). first ++ take k t) (sym left) ∙ sym (take_both (length out) s t));
     }
 
-pub held : (at : ℕ) (out : List ℕ) {from : ℕ} → from ≡ min (length out) at → Written (take at out) out out from
-held at out e = record {
+held : {at : ℕ} {out : List ℕ} → at ≤ length out → Written (take at out) out out at
+held {at} {out} h = record {
   count = omega (arith, length-take at out);
   bytes = sym (ap (λ (l : List ℕ). put l out) (take_all (length out) (take at out) (omega (arith, length-take at out))) ∙ put_take at out);
 }
 
 pub placed :
-    (at : ℕ) {text out Y : List ℕ} {from n : ℕ}
-    → from ≡ min (length out) at
-    → Written text (mid_of from (length out - from) out) Y n
-    → Appended text at out (put_mid from (length out - from) out Y) (from + n)
-placed at {out = out} e w = record { written = join (held at out e) w }
-
-pub sized :
-    (out : List ℕ) (from : ℕ) {text Y : List ℕ} {k n : ℕ}
+    {at : ℕ} {text out Y : List ℕ} {k n : ℕ}
+    → at ≤ length out
     → k ≡ length text
-    → Y ≡ put (take (length (mid_of from (length out - from) out)) text) (mid_of from (length out - from) out)
-    → n ≡ min (length out - from) k
-    → Written text (mid_of from (length out - from) out) Y n
-sized out from e f g = record {
-  count = omega (arith, length-take (length out - from) (drop from out), length-drop from out);
-  bytes = f;
-}
+    → Y ≡ put (take (length (mid_of at (length out - at) out)) text) (mid_of at (length out - at) out)
+    → n ≡ min (length (mid_of at (length out - at) out)) k
+    → Appended text at out (put_mid at (length out - at) out Y) (at + n)
+placed h long left least = record { written = join (held h) (record { count = omega (arith, long, least); bytes = left }) }
 
 -- Of a text that was cut off, more would be cut off too.
 take_cut : (n : ℕ) (s t : List ℕ) → take n (take n s ++ t) ≡ take n (s ++ t)
@@ -108,8 +95,11 @@ behind {s} {out} {L} {Y} t {a} u v =
       bytes = v.bytes ∙ rw (same, again, u.bytes) (put_over (take (length out) (first ++ t)) first out long) ∙ ap (λ (l : List ℕ). put l out) (take_cut (length out) s t);
     }
 
-pub then : {s t out L Y : List ℕ} {at a r : ℕ} → Appended s at out L a → Appended t a L Y r → Appended (s ++ t) at out Y r
-then {s} {t} {out} {at = at} u v = record { written = rw (append_assoc (take at out) s t) at (behind t u.written v.written) }
+appended_then : {s t out L Y : List ℕ} {at a r : ℕ} → Appended s at out L a → Appended t a L Y r → Appended (s ++ t) at out Y r
+appended_then {s} {t} {out} {at = at} u v = record { written = rw (append_assoc (take at out) s t) at (behind t u.written v.written) }
+
+pub then : {s t : List ℕ} {before now last : Writer} → Writes s before now → Writes t now last → Writes (s ++ t) before last
+then u v = record { same_reference = v.same_reference ∙ u.same_reference; appended = appended_then u.appended v.appended }
 
 listed_snoc : (ns : List ℕ) (n : ℕ) → listed (ns ++ n ∷ []) ≡ listed ns ++ (44 ∷ decimal n)
 unfolding listed
@@ -120,50 +110,47 @@ unfolding comma_list listed
 comma_snoc [] n = append-nil (decimal n)
 comma_snoc (m ∷ ns) n = rw (listed_snoc ns n) (sym (append_assoc (decimal m) (listed ns) (44 ∷ decimal n)))
 
-pub comma_next : (ns : List ℕ) (i : ℕ) → i < length ns → comma_list (take (i + 1) ns) ≡ comma_list (take i ns) ++ item i (get_or ns i 0)
+comma_next : (ns : List ℕ) (i : ℕ) → i < length ns → comma_list (take (i + 1) ns) ≡ comma_list (take i ns) ++ item i (get_or ns i 0)
 comma_next ns i h = rw (add-one, take-suc ns i 0 h, comma_snoc, length-take-le i ns (omega arith))
 
 pub item_later : (place n : ℕ) → (place ≡ 0 → ⊥) → item place n ≡ 44 ∷ decimal n
 item_later zero n h = absurd (h refl)
 item_later (suc place) n h = refl
 
-pub item_most : (k place n : ℕ) → n < 10 ^ suc k → length (item place n) ≤ suc k + 1
+item_most : (k place n : ℕ) → n < 10 ^ suc k → length (item place n) ≤ suc k + 1
 item_most k zero n h = omega (arith, few_digits k n h)
 item_most k (suc place) n h = omega (arith, few_digits k n h)
 
--- i of the numbers are written, up to place `end`, and at most k bytes for each.
-pub record Listing (k : ℕ) (ns : List ℕ) (at : ℕ) (out : List ℕ) (i end : ℕ) (now : List ℕ) : Type 0 where
+-- i of the numbers are written, with at most k bytes for each.
+pub record Listing (k : ℕ) (ns : List ℕ) (before : Writer) (i : ℕ) (now : Writer) : Type 0 where
   pub few : i ≤ length ns
-  pub written : Appended (comma_list (take i ns)) at out now end
+  pub written : Writes (comma_list (take i ns)) before now
   pub most : length (comma_list (take i ns)) ≤ k * i
 
-pub begin : (k : ℕ) (ns : List ℕ) (at : ℕ) (out : List ℕ) {end : ℕ} → end ≡ min (length out) at → Listing k ns at out 0 end out
+pub begin : (k : ℕ) (ns : List ℕ) (w : Writer) → Listing k ns w 0 w
 unfolding comma_list
-begin k ns at out e = record { few = omega arith; written = record { written = rw append-nil (held at out e) }; most = omega arith }
+begin k ns w = record {
+  few = omega arith;
+  written = record { same_reference = refl; appended = record { written = rw append-nil (held w.inside) } };
+  most = omega arith;
+}
 
 pub turn :
-    (k : ℕ) {ns out L Y : List ℕ} {at i end r : ℕ}
-    → Listing (suc k + 1) ns at out i end L
+    (k : ℕ) {ns : List ℕ} {before now last : Writer} {i : ℕ}
+    → Listing (suc k + 1) ns before i now
     → i < length ns
-    → Appended (item i (get_or ns i 0)) end L Y r
+    → Writes (item i (get_or ns i 0)) now last
     → get_or ns i 0 < 10 ^ suc k
-    → Listing (suc k + 1) ns at out (i + 1) r Y
-turn k {ns} {i = i} now more w small =
+    → Listing (suc k + 1) ns before (i + 1) last
+turn k {ns} {i = i} l more w small =
     let next = comma_next ns i more in
     let grown = ap length next ∙ length-append (comma_list (take i ns)) (item i (get_or ns i 0)) in
     let bound : (suc k + 1) * (i + 1) ≡ (suc k + 1) * i + (suc k + 1) = rw (add-one i) (mul-suc (suc k + 1) i) in
     record {
       few = omega arith;
-      written = rw next (then now.written w);
-      most = omega (arith, now.most, item_most k i (get_or ns i 0) small);
+      written = rw next (then l.written w);
+      most = omega (arith, l.most, item_most k i (get_or ns i 0) small);
     }
-
-pub done : {k : ℕ} {ns out now : List ℕ} {at i end : ℕ} → Listing k ns at out i end now → length ns ≤ i → Appended (comma_list ns) at out now end × (length (comma_list ns) ≤ k * length ns)
-done {k} {ns} {i = i} l h =
-    let all : take i ns ≡ ns = take_all i ns h in
-    let last : i ≡ length ns = omega (arith, l.few) in
-    let most : length (comma_list ns) ≤ k * i = rw all at l.most in
-    (rw all at l.written, rw last at most)
 
 pub length_printed : (bytes : List ℕ) → length (printed bytes) ≡ length bytes
 unfolding printed

@@ -9,7 +9,7 @@ use Prim.Native.Nat.{ℕ, ◌≤◌}
 use native.Mathlib.Omega.{arith}
 use lib.ListN.{length, take, length-take}
 use Rattle.metrics_bits.specs.declared.MetricsBits.{MetricsBits}
-use Rattle.line_format.specs.Line.{Columns, columns, line_text, Short}
+use Rattle.line_format.specs.Line.{Columns, columns, line_text, Fits, Short}
 use Rattle.line_format.specs.declared.Kind.{Kind}
 use Rattle.line_record.specs.declared.Line.{Line}
 use Rattle.line_record.specs.Line.{front, Within, Holds, HoldsOf}
@@ -31,11 +31,11 @@ module _ (c : Columns) {r : Line} where
       → q ≡ take n c.quals
       → e ≡ take n c.errors
       → Within (line_text kind kept (columns b q e) m) r
-      → (Short (columns b q e) → length (line_text kind kept (columns b q e) m) ≤ 12288)
+      → (Short (columns b q e) → Fits (line_text kind kept (columns b q e) m))
       → HoldsOf (line_text kind kept (front n c) m) c r
   from_fronts kind n kept m {b} {q} {e} eb eq ee w f =
       let are : columns b q e ≡ front n c = rw (eb, eq, ee) in
       record {
         written = subst (λ (x : Columns). Within (line_text kind kept x m) r) are w;
-        fits = λ s. subst (λ (x : Columns). Short x → length (line_text kind kept x m) ≤ 12288) are f (short_front n c s);
+        fits = λ s. subst (λ (x : Columns). Short x → Fits (line_text kind kept x m)) are f (short_front n c s);
       }

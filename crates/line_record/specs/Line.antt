@@ -2,7 +2,7 @@
 use Rattle.std.specs.Prelude.{ℕ, ◌≤◌, Option, None, Some, Result, Ok, Err, List, length, take, replicate}
 use Rattle.duplex_kind.specs.declared.DuplexConsensus.{DuplexConsensus}
 use Rattle.line_output.specs.Text.{Written}
-use Rattle.line_format.specs.Line.{Columns, columns, line_text, none_text, refused_text, Short}
+use Rattle.line_format.specs.Line.{Columns, columns, line_text, none_text, refused_text, Fits, Short}
 use Rattle.line_report.specs.Report.{Strands, reported}
 use Rattle.line_report.specs.declared.Report.{Report}
 use Rattle.line_record.specs.declared.Line.{Line}
@@ -35,9 +35,9 @@ Within text r = Written text blank r.bytes r.length
 -- A text that there is room for.
 pub record Holds (text : List ℕ) (r : Line) : Type 0 where
   pub written : Within text r
-  pub fits : length text ≤ 12288
+  pub fits : Fits text
 
 -- A text that there is room for if it is of arrays of at most 1,024 places.
 pub record HoldsOf (text : List ℕ) (c : Columns) (r : Line) : Type 0 where
   pub written : Within text r
-  pub fits : Short c → length text ≤ 12288
+  pub fits : Short c → Fits text

@@ -8,15 +8,16 @@ ghost use Rattle.line_record.specs.Line.{some_text, report_text, answer_text, Ho
 
 use duplex_kind::DuplexConsensus;
 use duplex_metrics::Counts;
-use line_format::{RecordColumns, write_none, write_record, write_refused};
+use line_format::{LINE_BYTES, RecordColumns, write_none, write_record, write_refused};
 use line_report::{Report, record_report};
 use lists::front;
 
 // A text: its length, and its bytes at the front of zeros. No heap, so the bytes have a fixed room, and the text may be shorter.
+// Not an ArrayVec: a Line is Copy, and its readers are promised zeros after the text, which an ArrayVec does not show.
 #[derive(Clone, Copy)]
 pub struct Line {
     pub length: usize,
-    pub bytes: [u8; 12288],
+    pub bytes: [u8; LINE_BYTES],
 }
 
 // The line of a refusal. Any number is taken: a Refusal would ask more of callers.
@@ -24,7 +25,7 @@ pub fn refused_line(number: u8) -> Line
     ensures { Holds (refused_text number) result }
 {
     // No heap: arrays of the most that is looked at.
-    let mut bytes = [0; 12288];
+    let mut bytes = [0; LINE_BYTES];
     let length = write_refused(number, &mut bytes);
     Line { length, bytes }
 }
@@ -34,7 +35,7 @@ fn none_line() -> Line
     ensures { Holds none_text result }
 {
     // No heap: arrays of the most that is looked at.
-    let mut bytes = [0; 12288];
+    let mut bytes = [0; LINE_BYTES];
     let length = write_none(&mut bytes);
     Line { length, bytes }
 }
@@ -53,11 +54,12 @@ fn text_line(report: Report, row: RecordColumns) -> Line
         errors,
     };
     // No heap: arrays of the most that is looked at.
-    let mut bytes = [0; 12288];
+    let mut bytes = [0; LINE_BYTES];
     let length = write_record(report.kind, report.kept, within, report.metrics, &mut bytes);
     Line { length, bytes }
 }
 
+// Refused by any number, as record_line's answer may be.
 fn report_line(report: Result<Option<Report>, u8>, row: RecordColumns) -> Line
     ensures { HoldsOf (report_text report (columns_in row.entry)) (columns_in row.entry) result }
 {

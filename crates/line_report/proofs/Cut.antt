@@ -1,9 +1,9 @@
 -- A record's report from the first 1,024 numbers of each array of a strand is that from all. A record of more positions is refused by
 -- its gate, whatever its strands are.
 --     from_read     a report from what was read of each array of two strands
---     none_read     of none
+--     own_read      the same as the code has it
 -- Assumes nothing.
-use mathlib.Core.Path.{◌≡◌, refl, sym, ◌∙◌}
+use mathlib.Core.Path.{◌≡◌, refl, sym, ap, ◌∙◌}
 use mathlib.Core.Bool.{Bool, true, false, true≢false}
 use mathlib.Core.List.{List, [], ◌∷◌, ◌++◌}
 use Prim.Native.Nat.{ℕ, ◌<◌}
@@ -12,6 +12,9 @@ use lib.Dec.{ltb}
 use lib.ListN.{length, take}
 use lib.Seq.{take-nil, take-take}
 use Rattle.std.proofs.Common.{Option, None, Some, Result}
+use Rattle.std.specs.Bool.{then_some}
+use Rattle.std.specs.Option.{is_some, unwrap_or}
+use Rattle.byte_numbers.specs.Bytes.{words16}
 use Rattle.refusals.specs.declared.Refusal.{Refusal}
 use Rattle.refusals.specs.declared.Refusal.TheVariants.{TooLong}
 use Rattle.refusals.specs.Refusal.{◌if◌, too_long, refused}
@@ -19,10 +22,12 @@ use Rattle.refusals.specs.Outcome.{answer}
 use Rattle.refusals.proofs.Claims.{none_lost}
 use Rattle.duplex_min_reads.specs.MinReads.{faults, min_reads, reaches_all}
 use Rattle.duplex_gate.specs.ConsensusGate.{largest_within, consensus_gate}
-use Rattle.duplex_metrics.specs.Metrics.{Input, input}
+use Rattle.duplex_metrics.specs.Metrics.{Input, input, input_given}
+use Rattle.duplex_metrics.specs.declared.Counts.{Counts}
+use Rattle.duplex_metrics.specs.declared.MetricsInput.{MetricsInput}
 use Rattle.metrics_bits.specs.declared.MetricsBits.{MetricsBits}
 use Rattle.line_format.specs.declared.Kind.{Kind}
-use Rattle.line_report.specs.Report.{front_input, gated_report, judged, record_report}
+use Rattle.line_report.specs.Report.{input_in, front_input, gated_report, judged, record_report}
 use Rattle.line_report.specs.declared.Report.{Report}
 
 -- What refuses a record of over 1,024 positions.
@@ -74,5 +79,27 @@ module _ (kind : Kind) (n : ℕ) (second : Bool) (a ae b be bases errors ts : Li
   from_read ex ey ez ew e = e ∙ rw (ex, ey, ez, ew) alike
 
 -- An absent strand has no numbers.
-pub none_read : (n : ℕ) → ◌≡◌ {A = List ℕ} [] (take n (take 1024 []))
+none_read : (n : ℕ) → ◌≡◌ {A = List ℕ} [] (take n (take 1024 []))
 none_read n = sym (take-nil n)
+
+-- The same as the code has it: the second strand's numbers where it is there, as many of each of the others, and what of the record.
+pub own_read :
+    (kind : Kind) (n : ℕ) (a : Counts ℕ) (b : Option (Counts ℕ)) (bases errors ts : List ℕ) (none second : Counts ℕ) (x : MetricsInput ℕ ℕ)
+    {own other : Counts ℕ} {there : Bool} {given : Option (Counts ℕ)} {r : Result Report Refusal}
+    → own.depths.now ≡ take n (take 1024 (words16 a.depths.now))
+    → own.errors.now ≡ take n (take 1024 (words16 a.errors.now))
+    → second.depths.now ≡ take n (take 1024 (words16 other.depths.now))
+    → second.errors.now ≡ take n (take 1024 (words16 other.errors.now))
+    → other ≡ unwrap_or b none
+    → there ≡ is_some b
+    → given ≡ then_some there second
+    → (x.a ≡ own) × (x.b ≡ given) × (x.bases.now ≡ take n bases) × (x.errors.now ≡ take n errors)
+    → r ≡ judged kind n (input_given x) ts
+    → r ≡ record_report kind n (input_in a b bases errors) ts
+own_read kind n a None bases errors ts none second x ad ae bd be o t g is e =
+    from_read kind n false (words16 a.depths.now) (words16 a.errors.now) [] [] bases errors ts ad ae (none_read n) (none_read n)
+    (e ∙ rw (is.0, is.1, is.2, is.3, g, t) refl)
+own_read kind n a (Some b) bases errors ts none second x ad ae bd be o t g is e =
+    from_read kind n true (words16 a.depths.now) (words16 a.errors.now) (words16 b.depths.now) (words16 b.errors.now) bases errors ts ad ae
+    (bd ∙ ap (λ (s : Counts ℕ). take n (take 1024 (words16 s.depths.now))) o) (be ∙ ap (λ (s : Counts ℕ). take n (take 1024 (words16 s.errors.now))) o)
+    (e ∙ rw (is.0, is.1, is.2, is.3, g, t) refl)

@@ -2,15 +2,15 @@
 // strands. Uses lists, refusals, byte_numbers, duplex_kind, duplex_depths, duplex_gate, duplex_metrics, metrics_bits and line_format.
 #![tactic(auto)]
 
-ghost use Rattle.std.specs.Prelude.{◌≡◌, take};
-ghost use Rattle.duplex_metrics.specs.Metrics.{input_of};
+ghost use Rattle.std.specs.Prelude.{◌≡◌};
+ghost use Rattle.duplex_metrics.specs.Metrics.{input_given};
 ghost use Rattle.line_report.specs.Counted.{Counted};
 ghost use Rattle.line_report.specs.Report.{strands_in, input_in, judged, record_report, reported};
 
 use duplex_depths::RecordDepths;
 use duplex_gate::duplex_consensus_has_minimum_reads;
 use duplex_kind::DuplexConsensus;
-use duplex_metrics::{Counts, depths_of};
+use duplex_metrics::{Counts, MetricsInput, depths_of};
 use line_format::Kind;
 use lists::front;
 use metrics_bits::{MetricsBits, metrics_bits};
@@ -26,31 +26,22 @@ pub struct Report {
     pub metrics: MetricsBits,
 }
 
-// What a record is judged with beside its strands: the thresholds, and the bases and errors that it was written to.
-#[derive(Clone, Copy)]
-struct Beside<'a> {
-    min_reads: &'a [u32],
-    bases: &'a [u8],
-    errors: &'a [u16],
-}
-
-// A record of n positions, given its own strands up to there.
+// A record of n positions, given its own strands, bases and errors up to there.
 fn judge(
     kind: Kind,
     n: usize,
-    first: Counts<u16>,
-    other: Option<Counts<u16>>,
-    x: Beside,
+    x: MetricsInput<u16, u16>,
+    min_reads: &[u32],
 ) -> Result<Report, Refusal>
-    ensures { result ≡ judged kind n (input_of first.entry other.entry (take n x.entry.bases.now) (take n x.entry.errors.now)) x.entry.min_reads.now }
+    ensures { result ≡ judged kind n (input_given x.entry) min_reads.now }
 {
     let r = RecordDepths {
         positions: n,
-        ab: first.depths,
-        ba: depths_of(other),
+        ab: x.a.depths,
+        ba: depths_of(x.b),
     };
-    let kept = duplex_consensus_has_minimum_reads(r, x.min_reads)?;
-    let metrics = metrics_bits(first, other, front(x.bases, n), front(x.errors, n))?;
+    let kept = duplex_consensus_has_minimum_reads(r, min_reads)?;
+    let metrics = metrics_bits(x)?;
     Ok(Report {
         kind,
         positions: n,
@@ -60,6 +51,7 @@ fn judge(
 }
 
 // Reads as many numbers as out has room for, and answers how many of the first n these are.
+#[tactic(auto, using(crate::proofs::Read::counted))]
 fn read_front(n: usize, bytes: &[u8], out: &mut [u16]) -> usize
     ensures { Counted n bytes.now out.old out.new result }
 {
@@ -72,63 +64,58 @@ fn read_front(n: usize, bytes: &[u8], out: &mut [u16]) -> usize
 fn own_report(
     kind: Kind,
     n: usize,
-    first: Counts<u8>,
-    other: Option<Counts<u8>>,
-    x: Beside,
+    x: MetricsInput<u8, u16>,
+    min_reads: &[u32],
 ) -> Result<Report, Refusal>
-    ensures { result ≡ record_report kind n (input_in first.entry other.entry x.entry.bases.now x.entry.errors.now) x.entry.min_reads.now }
+    ensures { result ≡ record_report kind n (input_in x.entry.a x.entry.b x.entry.bases.now x.entry.errors.now) min_reads.now }
 {
+    let first = x.a;
+    let other = x.b.unwrap_or(Counts::none());
     // No heap: arrays of the most that is looked at.
     let mut a = [0; 1024];
     let mut a_wrong = [0; 1024];
+    let mut b = [0; 1024];
+    let mut b_wrong = [0; 1024];
     let a_count = read_front(n, first.depths, &mut a);
     let a_wrong_count = read_front(n, first.errors, &mut a_wrong);
+    let b_count = read_front(n, other.depths, &mut b);
+    let b_wrong_count = read_front(n, other.errors, &mut b_wrong);
     let own = Counts {
         depths: &a[0..a_count],
         errors: &a_wrong[0..a_wrong_count],
     };
-    let Some(other) = other else {
-        return judge(kind, n, own, None, x);
-    };
-    let mut b = [0; 1024];
-    let mut b_wrong = [0; 1024];
-    let b_count = read_front(n, other.depths, &mut b);
-    let b_wrong_count = read_front(n, other.errors, &mut b_wrong);
     let others = Counts {
         depths: &b[0..b_count],
         errors: &b_wrong[0..b_wrong_count],
     };
-    judge(kind, n, own, Some(others), x)
+    let others = x.b.is_some().then_some(others);
+    let within = MetricsInput::new(own, others, front(x.bases, n), front(x.errors, n));
+    judge(kind, n, within, min_reads)
 }
 
 // The report of an answer of the library, given the strands, the thresholds, and the bases and errors that a record was written to.
 // Refuses as the library did, then as the gate and the metrics do. An answer that is refused by any number is taken: a Refusal would ask
-// more of callers.
-pub fn record_report(
+// more of callers. The strands come apart, not as a MetricsInput: which of them are the record's own is what `made` says.
+pub fn record_report<'a>(
     made: Result<Option<DuplexConsensus>, u8>,
-    a: Counts<u8>,
-    b: Counts<u8>,
+    a: Counts<'a, u8>,
+    b: Counts<'a, u8>,
     min_reads: &[u32],
-    bases: &[u8],
-    errors: &[u16],
+    bases: &'a [u8],
+    errors: &'a [u16],
 ) -> Result<Option<Report>, u8>
     ensures { result ≡ reported made (strands_in a.entry b.entry) min_reads.now bases.now errors.now }
 {
     let Some(made) = made? else {
         return Ok(None);
     };
-    let x = Beside {
-        min_reads,
-        bases,
-        errors,
-    };
+    let of_a = MetricsInput::new(a, None, bases, errors);
+    let of_b = MetricsInput::new(b, None, bases, errors);
+    let of_both = MetricsInput::new(a, Some(b), bases, errors);
     let report = match made {
-        DuplexConsensus::Ab(n) => own_report(Kind::Ab, n, a, None, x),
-        DuplexConsensus::Ba(n) => own_report(Kind::Ba, n, b, None, x),
-        DuplexConsensus::Both(n) => own_report(Kind::Both, n, a, Some(b), x),
+        DuplexConsensus::Ab(n) => own_report(Kind::Ab, n, of_a, min_reads),
+        DuplexConsensus::Ba(n) => own_report(Kind::Ba, n, of_b, min_reads),
+        DuplexConsensus::Both(n) => own_report(Kind::Both, n, of_both, min_reads),
     };
-    match report {
-        Ok(report) => Ok(Some(report)),
-        Err(refusal) => Err(refusal.number()),
-    }
+    report.map(Some).map_err(Refusal::number)
 }

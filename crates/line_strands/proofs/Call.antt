@@ -12,7 +12,7 @@ use Rattle.refusals.specs.declared.Refusal.{Refusal}
 use Rattle.duplex_kind.specs.declared.DuplexConsensus.{DuplexConsensus}
 use Rattle.molecule_consensus.specs.Bytes.{seen, BytesAs}
 use Rattle.molecule_consensus.proofs.Ample.{Ample, zeros_ample, inputs_alone}
-use Rattle.line_format.specs.Line.{columns}
+use Rattle.line_format.specs.Line.{Fits, columns}
 use Rattle.line_report.specs.Report.{strands}
 use Rattle.line_record.specs.Line.{answer_text, Within, Holds, HoldsOf}
 use Rattle.line_record.specs.declared.Line.{Line}
@@ -36,5 +36,5 @@ module _ (ts : List ℕ) (a b : StrandBytes) (listed : Bool) (run : List ℕ) {n
   pub from_call : {r : Line} → length now.bases ≡ 1024 → length now.quals ≡ 1024 → length now.errors ≡ 1024 → HoldsOf found (columns now.bases now.quals now.errors) r → Holds (strands_text ts a b listed run) r
   from_call {r} b_size q_size e_size h = record {
     written = subst (λ (t : List ℕ). Within t r) same_text h.written;
-    fits = subst (λ (t : List ℕ). length t ≤ 12288) same_text (h.fits record { bases = omega arith; quals = omega arith; errors = omega arith });
+    fits = subst Fits same_text (h.fits record { bases = omega arith; quals = omega arith; errors = omega arith });
   }

@@ -11,11 +11,9 @@ ghost use Rattle.line_strands.specs.Strands.{counts_of, numbered, strands_text};
 
 use duplex_kind::DuplexConsensus;
 use duplex_metrics::Counts;
-use duplex_outputs::RecordOutputs;
 use line_format::RecordColumns;
 use line_record::{Line, record_line};
-use methylation::EvidenceOutputs;
-use molecule_consensus::{EncodedMolecule, duplex_consensus_of_bytes};
+use molecule_consensus::{EncodedMolecule, RecordBuffers};
 use molecule_strand::EncodedStrand;
 use refusals::Refusal;
 
@@ -23,12 +21,8 @@ use refusals::Refusal;
 fn count_bytes<'a>(s: Option<EncodedStrand<'a>>) -> Counts<'a, u8>
     ensures { counts_in result ≡ counts_of (encoded_in s.entry) }
 {
-    let absent = Counts {
-        depths: &[],
-        errors: &[],
-    };
     s.map_or(
-        absent,
+        Counts::none(),
         |s| Counts {
             depths: s.depths,
             errors: s.errors,
@@ -36,7 +30,7 @@ fn count_bytes<'a>(s: Option<EncodedStrand<'a>>) -> Counts<'a, u8>
     )
 }
 
-// An answer with its refusal as a number, as it is reported.
+// An answer with its refusal as a number, as record_line takes it: its text is promised for any number, a refusal's or not.
 fn numbered(made: Result<Option<DuplexConsensus>, Refusal>) -> Result<Option<DuplexConsensus>, u8>
     ensures { result ≡ numbered made }
 {
@@ -47,36 +41,12 @@ fn numbered(made: Result<Option<DuplexConsensus>, Refusal>) -> Result<Option<Dup
 pub fn strands_line(m: EncodedMolecule, min_reads: &[u32]) -> Line
     ensures { Holds (strands_text min_reads.now (encoded_in m.entry.a) (encoded_in m.entry.b) (is_some m.entry.reads) (run_in m.entry.reads)) result }
 {
-    // No heap: arrays of the most that is looked at.
-    let mut bases = [0; 1024];
-    let mut quals = [0; 1024];
-    let mut errors = [0; 1024];
-    let mut a_marks = [0; 1024];
-    let mut a_unconverted = [0; 1024];
-    let mut a_converted = [0; 1024];
-    let mut b_marks = [0; 1024];
-    let mut b_unconverted = [0; 1024];
-    let mut b_converted = [0; 1024];
-    let mut own = RecordOutputs {
-        bases: &mut bases,
-        quals: &mut quals,
-        errors: &mut errors,
-    };
-    let mut a_evidence = EvidenceOutputs {
-        marks: &mut a_marks,
-        unconverted: &mut a_unconverted,
-        converted: &mut a_converted,
-    };
-    let mut b_evidence = EvidenceOutputs {
-        marks: &mut b_marks,
-        unconverted: &mut b_unconverted,
-        converted: &mut b_converted,
-    };
-    let made = duplex_consensus_of_bytes(m, &mut own, &mut a_evidence, &mut b_evidence);
+    let mut own = RecordBuffers::zeros();
+    let made = own.duplex_consensus_of_bytes(m);
     let row = RecordColumns {
-        bases: &bases,
-        quals: &quals,
-        errors: &errors,
+        bases: &own.bases,
+        quals: &own.quals,
+        errors: &own.errors,
     };
     record_line(
         numbered(made),

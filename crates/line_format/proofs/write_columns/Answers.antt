@@ -3,10 +3,6 @@ use Rattle.line_output.proofs.Text.{then}
 use Rattle.line_format.specs.Line.{columns_text}
 use Rattle.line_format.proofs.write_columns.Goals as goal
 
-pub returns-clause-appended : goal.returns-clause-appended
+pub returns-clause-written : goal.returns-clause-written
 unfolding columns_text
-returns-clause-appended c =
-    then (then (then (then c.write_printed-at.ensures c.write_text-at.ensures) c.write_u8s-at.ensures.appended) c.write_text-at-2.ensures) c.write_u16s.ensures.appended
-
-pub returns-clause-typed : goal.returns-clause-typed
-returns-clause-typed c = record { quals = c.write_u8s-at.ensures.numbers_len_bound; errors = c.write_u16s.ensures.numbers_len_bound }
+returns-clause-written c = then (then (then (then c.write_printed.ensures c.write_text.ensures) c.write_u8s.ensures.written) c.write_text-2.ensures) c.write_u16s.ensures.written

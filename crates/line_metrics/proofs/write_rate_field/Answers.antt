@@ -5,4 +5,4 @@ use Rattle.line_metrics.proofs.write_rate_field.Goals as goal
 
 pub returns : goal.returns
 unfolding rate_field
-returns c = then c.write_text-at.ensures c.write_bits.ensures
+returns c = then c.write_text.ensures c.write_bits.ensures

@@ -7,12 +7,12 @@ use Rattle.line_molecule.proofs.Parts.{read_is}
 use Rattle.line_molecule.proofs.Thresholds.{slice_read, text_refused, text_passed}
 use Rattle.line_molecule.proofs.molecule_line.Goals as goal
 
-pub returns-in-Ok : goal.returns-in-Ok
-returns-in-Ok c =
+pub returns : goal.returns
+returns c =
     let m = c.args.m in
     let v : c.unwrap_or-values.result.now ≡ value_or (value_in m.thresholds) = search rules in
-    text_passed (parts_of m) v (slice_read c.unwrap_or-values.result.now c.read.ensures c.min-count.ensures) c.validate_min_reads.ensures c.in-Ok.is
-    (read_is _ m c.strand_of.ensures c.strand_of-in-Ok.ensures c.strands_line.ensures)
+    text_passed (parts_of m) v (slice_read c.unwrap_or-values.result.now c.read.ensures c.min-count.ensures) c.validate_min_reads.ensures c.in_default.is
+    (read_is _ m c.strand_of.ensures c.strand_of-2.ensures c.strands_line.ensures)
 
 pub returns-in-Err : goal.returns-in-Err
 returns-in-Err c =

@@ -1,6 +1,0 @@
--- What the loop keeps.
-use Rattle.line_output.proofs.Text.{Listing}
-use Rattle.line_output.proofs.write_u16s.Given as goal
-
-abbrev pub invariant-loop-i : goal.invariant-loop-i
-invariant-loop-i l = Listing 6 l.numbers l.at l.initial.out l.i l.end l.out
