@@ -4,7 +4,7 @@
 
 ghost use Rattle.std.specs.Prelude.{◌≡◌, length, take, get_or};
 ghost use Rattle.lists.specs.Output.{put};
-ghost use Rattle.lists.specs.Part.{leaves, only_if, part};
+ghost use Rattle.lists.specs.Part.{leaves, part};
 
 // The element at a place, or another value past the end.
 pub fn get_or<T: Copy>(xs: &[T], place: usize, otherwise: T) -> T
@@ -52,13 +52,4 @@ pub fn part_leaves(offset: usize, count: usize, size: usize) -> bool
         return true;
     }
     size - offset < count
-}
-
-// All of a slice, or none of it. The flag chooses a slice and no way through the code: callers ask whether they have an annotation,
-// and would make an Option of the slice by that same test.
-#[tactic(auto, unfolding(crate::specs::Part::only_if))]
-pub fn only_if<T>(kept: bool, xs: &[T]) -> &[T]
-    ensures { result.now ≡ only_if kept xs.now }
-{
-    if kept { xs } else { &[] }
 }

@@ -1,7 +1,8 @@
 -- What a call answers, and what it leaves in a lent output, by its refusal, and which of two refusals it answers.
-use Rattle.std.specs.Prelude.{Bool, cond, Option, Some, None, Result, Ok, Err, List}
+use Rattle.std.specs.Prelude.{ℕ, Bool, cond, Option, Some, None, Result, Ok, Err, List}
 use Rattle.lists.specs.Output.{put}
 use Rattle.refusals.specs.declared.Refusal.{Refusal}
+use Rattle.refusals.specs.Refusal.{number_of}
 
 module _ {A : Type 0} where
   -- The answer of a call: its refusal, or x.
@@ -13,6 +14,11 @@ module _ {A : Type 0} where
   abbrev pub after : Option Refusal → List A → List A → List A
   after None xs out = put xs out
   after (Some row) xs out = out
+
+  -- An answer whose refusal is told by its row's number.
+  abbrev pub by_number : Result A Refusal → Result A ℕ
+  by_number (Ok x) = Ok x
+  by_number (Err row) = Err (number_of row)
 
 -- Of two refusals the first that there is.
 abbrev pub or_later : {Row : Type 0} → Option Row → Option Row → Option Row

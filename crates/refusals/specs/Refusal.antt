@@ -1,5 +1,5 @@
 -- The refusal table of document 01, and the order of its rows in every call.
-use Rattle.std.specs.Prelude.{ℕ, Bool, false, cond, not, ◌||◌, Option, Some, None, List, [], ◌∷◌, ◌++◌, eqb, ltb}
+use Rattle.std.specs.Prelude.{ℕ, ◌≤◌, Bool, false, cond, not, ◌||◌, Option, Some, None, List, [], ◌∷◌, ◌++◌, eqb, ltb, length}
 use Rattle.refusals.specs.declared.Refusal.{Refusal}
 use Rattle.refusals.specs.declared.Refusal.TheVariants.{Broken, NoThresholds, TooManyThresholds, XyAboveTotal, YxAboveXy, TooLong, Ragged, TooManyReads, PartOutside, BelowLength, OutputTooShort, NoMi, NoStrand}
 
@@ -67,6 +67,10 @@ too_long lengths = any (λ n. ltb 1024 n) lengths
 -- Row 9's condition, for the numbers of reads of some lists.
 abbrev pub too_many : List ℕ → Bool
 too_many counts = any (λ n. ltb 1024 n) counts
+
+-- A list that row 9 lets pass.
+abbrev pub FewReads : {A : Type 0} → List A → Type 0
+FewReads reads = length reads ≤ 1024
 
 -- Row 8's condition, for the lengths of arrays that belong together: they are not all the same.
 abbrev pub ragged : List ℕ → Bool
