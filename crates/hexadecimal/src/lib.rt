@@ -2,13 +2,14 @@
 // Not by `write!` with {:08x}: tried into fixed memory, the arm where it fails stays open, and this never does; a String needs a heap.
 #![tactic(auto)]
 
-ghost use Rattle.std.specs.Prelude.{◌≡◌, ◌-◌, ◌^◌, ◌<◌, length, take};
+ghost use Rattle.std.specs.Prelude.{◌≡◌, ◌-◌, ◌<◌, length, take};
 ghost use Rattle.lists.specs.Output.{put};
 ghost use Rattle.hexadecimal.specs.Hexadecimal.{hex_digit, digit_at, hexadecimal};
 
 // How many digits a 32-bit number has.
 pub const HEXADECIMAL_DIGITS: usize = 8;
 
+// Not by `char::from_digit`: it answers an Option of a char, and neither is wanted here.
 fn hex_digit(value: u8) -> u8
     requires { value < 16 }
     ensures { result ≡ hex_digit value }

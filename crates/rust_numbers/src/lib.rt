@@ -10,7 +10,7 @@ ghost use Rattle.caller.specs.Short.{short, short_of};
 ghost use Rattle.caller.specs.Name.{read_name, name_refused};
 ghost use Rattle.caller.specs.Rate.{error_rate};
 ghost use Rattle.methylation.specs.Methylation.{is_enabled, pattern_of_flags, pattern_bases, is_cpg_context};
-ghost use Rattle.methylation.specs.Choices.{pattern_number, pattern_in, mode_in, pattern_of, wrong_pattern, mode_of, wrong_mode};
+ghost use Rattle.methylation.specs.Choices.{pattern_number, pattern_of, wrong_pattern, mode_of, wrong_mode};
 ghost use Rattle.replies.specs.Choices.{yes};
 ghost use Rattle.replies.specs.Replies.{count_reply, number_reply, no_number, numbered};
 ghost use Rattle.duplex_reads.specs.Reads.{is_paired, is_paired_r1, is_paired_r2};
