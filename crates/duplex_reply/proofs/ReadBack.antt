@@ -4,6 +4,7 @@ use Rattle.duplex_reply.specs.ReadBack.{ReadBack}
 
 pub read_back : ReadBack
 read_back = record {
+  handed_on = λ number. refl;
   refusals = λ row. refl;
   none = record { passes = refl; answers = refl };
   ab = λ n. record { passes = refl; answers = refl };

@@ -6,7 +6,7 @@ use Rattle.refusals.specs.Refusal.{number_of}
 use Rattle.duplex_kind.specs.declared.DuplexConsensus.{DuplexConsensus}
 use Rattle.duplex_kind.specs.declared.DuplexConsensus.TheVariants.{Ab, Ba, Both}
 use Rattle.replies.specs.ReadBack.{TellsBack}
-use Rattle.duplex_reply.specs.Reply.{record_for}
+use Rattle.duplex_reply.specs.Reply.{record_told, record_for}
 use Rattle.duplex_reply.specs.declared.DuplexRecord.{DuplexRecord}
 
 -- What a program takes from an answer that is no refusal.
@@ -19,6 +19,7 @@ abbrev pub Told : Option DuplexConsensus → Type 0
 Told made = TellsBack record_for (λ (r : DuplexRecord). r.refused) record_back (Ok made)
 
 pub record ReadBack : Type 0 where
+  pub handed_on : (number : ℕ) → (record_told (Err number)).refused ≡ number
   pub refusals : (row : Refusal) → (record_for (Err row)).refused ≡ number_of row
   pub none : Told None
   pub ab : (n : ℕ) → Told (Some (Ab n))

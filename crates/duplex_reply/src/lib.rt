@@ -7,7 +7,7 @@ ghost use Rattle.refusals.specs.Refusal.{number_of};
 ghost use Rattle.methylation.specs.Arrays.{evidence_in};
 ghost use Rattle.methylation.specs.Choices.{annotation_of};
 ghost use Rattle.vanilla_caller.specs.Strand.{arrays_in, with_evidence, arrays_seen};
-ghost use Rattle.duplex_reply.specs.Reply.{no_record, record_for};
+ghost use Rattle.duplex_reply.specs.Reply.{no_record, record_told, record_for};
 ghost use Rattle.duplex_reply.specs.Strand.{told_by, strand_by};
 
 use duplex_kind::DuplexConsensus;
@@ -38,23 +38,31 @@ impl From<Refusal> for DuplexRecord {
     }
 }
 
-// The answer of a combination as numbers, which are those that C sees.
+// The answer of a combination as numbers, which are those that C sees. Of a refusal told by its number, any number is handed on.
+impl From<Result<Option<DuplexConsensus>, u8>> for DuplexRecord {
+    ghost from_gives = { λ answer reply. reply ≡ record_told answer };
+
+    fn from(answer: Result<Option<DuplexConsensus>, u8>) -> DuplexRecord {
+        let (refused, kind, positions) = match answer {
+            Err(number) => (number, 0, 0),
+            Ok(None) => (0, 0, 0),
+            Ok(Some(DuplexConsensus::Ab(n))) => (0, 1, n),
+            Ok(Some(DuplexConsensus::Ba(n))) => (0, 2, n),
+            Ok(Some(DuplexConsensus::Both(n))) => (0, 3, n),
+        };
+        DuplexRecord {
+            refused,
+            kind,
+            positions,
+        }
+    }
+}
+
 impl From<Result<Option<DuplexConsensus>, Refusal>> for DuplexRecord {
     ghost from_gives = { λ answer reply. reply ≡ record_for answer };
 
     fn from(answer: Result<Option<DuplexConsensus>, Refusal>) -> DuplexRecord {
-        let (kind, positions) = match answer {
-            Err(refusal) => return DuplexRecord::from(refusal),
-            Ok(None) => (0, 0),
-            Ok(Some(DuplexConsensus::Ab(n))) => (1, n),
-            Ok(Some(DuplexConsensus::Ba(n))) => (2, n),
-            Ok(Some(DuplexConsensus::Both(n))) => (3, n),
-        };
-        DuplexRecord {
-            refused: 0,
-            kind,
-            positions,
-        }
+        DuplexRecord::from(answer.map_err(Refusal::number))
     }
 }
 

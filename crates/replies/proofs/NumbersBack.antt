@@ -12,6 +12,7 @@ bit_back false = refl
 
 pub numbers_back : NumbersBack
 numbers_back = record {
+  handed_on = λ number. refl;
   counts = record { refusals = λ row. refl; passes = λ x. refl; answers = λ x. refl };
   numbers = record { refusals = λ row. refl; passes = λ x. refl; answers = λ x. refl };
   bits = record { refusals = λ row. refl; passes = λ x. refl; answers = bit_back };

@@ -2,6 +2,7 @@
 use Rattle.std.specs.Prelude.{ℕ, ◌≡◌, Bool, true, false, cond, Result, Ok, Err}
 use Rattle.refusals.specs.declared.Refusal.{Refusal}
 use Rattle.refusals.specs.Refusal.{number_of}
+use Rattle.refusals.specs.Outcome.{by_number}
 use Rattle.replies.specs.declared.Count.{Count}
 use Rattle.replies.specs.declared.Number.{Number}
 
@@ -19,10 +20,14 @@ no_number number = record { refused = number; number = 0 }
 abbrev pub numbered : ℕ → Number
 numbered n = record { refused = 0; number = n }
 
+-- An answer as numbers whose refusal is told by its number, which is handed on, a row's or not.
+abbrev pub count_told : Result ℕ ℕ → Count
+count_told (Ok n) = counted n
+count_told (Err number) = not_counted number
+
 -- An answer as numbers: its refusal, or what was asked for; of a yes or no, 1 is yes.
 abbrev pub count_reply : Result ℕ Refusal → Count
-count_reply (Ok n) = counted n
-count_reply (Err refusal) = not_counted (number_of refusal)
+count_reply answer = count_told (by_number answer)
 
 abbrev pub number_reply : Result ℕ Refusal → Number
 number_reply (Ok n) = numbered n

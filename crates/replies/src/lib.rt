@@ -6,7 +6,7 @@ ghost use Rattle.std.specs.Prelude.{◌≡◌};
 ghost use Rattle.methylation.specs.Choices.{annotation_in, annotation_of, wrong_annotation};
 ghost use Rattle.refusals.specs.Refusal.{number_of};
 ghost use Rattle.replies.specs.Choices.{annotations_in};
-ghost use Rattle.replies.specs.Replies.{not_counted, no_number, bit_reply, count_reply, number_reply};
+ghost use Rattle.replies.specs.Replies.{not_counted, no_number, bit_reply, count_told, count_reply, number_reply};
 
 use methylation::{ConversionPattern, pattern_of};
 use refusals::{Refusal, refuse};
@@ -31,15 +31,23 @@ impl From<Refusal> for Count {
     }
 }
 
-// The numbers are those that C sees.
+// The numbers are those that C sees. Of a refusal told by its number, any number is handed on.
+impl From<Result<usize, u8>> for Count {
+    ghost from_gives = { λ answer reply. reply ≡ count_told answer };
+
+    fn from(answer: Result<usize, u8>) -> Count {
+        match answer {
+            Ok(count) => Count { refused: 0, count },
+            Err(refused) => Count { refused, count: 0 },
+        }
+    }
+}
+
 impl From<Result<usize, Refusal>> for Count {
     ghost from_gives = { λ answer reply. reply ≡ count_reply answer };
 
     fn from(answer: Result<usize, Refusal>) -> Count {
-        match answer {
-            Ok(count) => Count { refused: 0, count },
-            Err(refusal) => Count::from(refusal),
-        }
+        Count::from(answer.map_err(Refusal::number))
     }
 }
 

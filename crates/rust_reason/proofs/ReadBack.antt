@@ -5,6 +5,7 @@ use Rattle.rust_reason.specs.ReadBack.{ReadBack, ReasonBack}
 
 pub read_back : ReadBack
 read_back = record {
+  handed_on = λ number. refl;
   refusals = λ row. refl;
   passes = λ reason. refl;
   answers = elim [

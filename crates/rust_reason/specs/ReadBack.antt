@@ -5,7 +5,7 @@ use Rattle.refusals.specs.declared.Refusal.{Refusal}
 use Rattle.refusals.specs.Refusal.{number_of}
 use Rattle.duplex_reason.specs.declared.NoCallReason.{NoCallReason}
 use Rattle.duplex_reason.specs.declared.NoCallReason.TheVariants.{Outside, SingleStrand, Called, ANoCall, BNoCall, BothNoCall, EqualQualities, CloseQualities, LowSum, LowConfirming}
-use Rattle.rust_reason.specs.Reply.{reason_for}
+use Rattle.rust_reason.specs.Reply.{reason_told, reason_for}
 
 -- What a program takes from an answer that is no refusal; any other number stands for none.
 abbrev pub named : ℕ → Option NoCallReason
@@ -22,6 +22,7 @@ named number =
     (cond (eqb number 10) (Some LowConfirming) None)))))))))
 
 pub record ReadBack : Type 0 where
+  pub handed_on : (number : ℕ) → (reason_told (Err number)).refused ≡ number
   pub refusals : (row : Refusal) → reason_for (Err row) ≡ record { refused = number_of row; reason = 0 }
   pub passes : (x : NoCallReason) → (reason_for (Ok x)).refused ≡ 0
   pub answers : (x : NoCallReason) → named (reason_for (Ok x)).reason ≡ Some x

@@ -2,7 +2,7 @@
 use Rattle.std.specs.Prelude.{ℕ, Bool, cond, Result, Ok, Err}
 use Rattle.refusals.specs.declared.Refusal.{Refusal}
 use Rattle.refusals.specs.declared.Refusal.TheVariants.{Broken}
-use Rattle.refusals.specs.Refusal.{number_of}
+use Rattle.refusals.specs.Outcome.{by_number}
 use Rattle.duplex_kind.specs.Kind.{Strand}
 use Rattle.duplex_reason.specs.Record.{reason_of}
 use Rattle.duplex_reason.specs.declared.NoCallReason.{NoCallReason}
@@ -21,9 +21,13 @@ reason_number CloseQualities = 8
 reason_number LowSum = 9
 reason_number LowConfirming = 10
 
+-- A refusal told by its number is handed on, a row's number or not.
+abbrev pub reason_told : Result NoCallReason ℕ → Reason
+reason_told (Ok reason) = record { refused = 0; reason = reason_number reason }
+reason_told (Err number) = record { refused = number; reason = 0 }
+
 abbrev pub reason_for : Result NoCallReason Refusal → Reason
-reason_for (Ok reason) = record { refused = 0; reason = reason_number reason }
-reason_for (Err refusal) = record { refused = number_of refusal; reason = 0 }
+reason_for answer = reason_told (by_number answer)
 
 -- What is said of position i between two strands, each of which may be refused.
 abbrev pub reason_between : Result Strand Refusal → Result Strand Refusal → ℕ → Result NoCallReason Refusal

@@ -1,5 +1,5 @@
 // Why a position of a record shows N, document 02's #101, as an entry point over numbers as they are: the answer as numbers, and row 13
-// for an annotation. Uses refusals, methylation, vanilla_caller, duplex_kind, duplex_reply and duplex_reason.
+// for an annotation. Uses refusals, methylation, replies, vanilla_caller, duplex_kind, duplex_reply and duplex_reason.
 #![tactic(auto)]
 
 ghost use Rattle.std.specs.Prelude.{◌≡◌, ◌&&◌, ◌||◌};
@@ -8,7 +8,7 @@ ghost use Rattle.replies.specs.Choices.{yes};
 ghost use Rattle.vanilla_caller.specs.Strand.{arrays};
 ghost use Rattle.duplex_kind.specs.Kind.{strand};
 ghost use Rattle.duplex_reply.specs.Strand.{told_by};
-ghost use Rattle.rust_reason.specs.Reply.{reason_number, reason_for, entry_reason, reason_between};
+ghost use Rattle.rust_reason.specs.Reply.{reason_number, reason_told, reason_for, entry_reason, reason_between};
 
 use duplex_reason::{NoCallReason, no_call_reason};
 use duplex_reply::strand_in;
@@ -33,21 +33,26 @@ fn reason_number(reason: NoCallReason) -> u8
     reason as u8
 }
 
-// The answer as numbers.
-impl From<Result<NoCallReason, Refusal>> for Reason {
-    ghost from_gives = { λ answer reply. reply ≡ reason_for answer };
+// The answer as numbers. Of a refusal told by its number, any number is handed on.
+impl From<Result<NoCallReason, u8>> for Reason {
+    ghost from_gives = { λ answer reply. reply ≡ reason_told answer };
 
-    fn from(answer: Result<NoCallReason, Refusal>) -> Reason {
+    fn from(answer: Result<NoCallReason, u8>) -> Reason {
         match answer {
             Ok(reason) => Reason {
                 refused: 0,
                 reason: reason_number(reason),
             },
-            Err(refusal) => Reason {
-                refused: refusal.number(),
-                reason: 0,
-            },
+            Err(refused) => Reason { refused, reason: 0 },
         }
+    }
+}
+
+impl From<Result<NoCallReason, Refusal>> for Reason {
+    ghost from_gives = { λ answer reply. reply ≡ reason_for answer };
+
+    fn from(answer: Result<NoCallReason, Refusal>) -> Reason {
+        Reason::from(answer.map_err(Refusal::number))
     }
 }
 
