@@ -2,8 +2,7 @@
 // length. Uses lists, refusals, methylation and vanilla_caller.
 #![tactic(auto)]
 
-ghost use Rattle.std.specs.Prelude.{◌≡◌};
-ghost use Rattle.std.specs.Prelude.{is_some};
+ghost use Rattle.std.specs.Prelude.{◌≡◌, is_some};
 ghost use Rattle.duplex_kind.specs.Kind.{given, given_of, given_in, count_in, leaving_in, shorter_present, some_depth, kind_by, long, uneven, kind_given};
 
 use lists::front;

@@ -3,6 +3,7 @@
 
 ghost use Rattle.std.specs.Prelude.{◌≡◌, ◌≤◌, length};
 ghost use Rattle.lists.specs.Output.{put};
+ghost use Rattle.refusals.specs.Refusal.{FewReads};
 ghost use Rattle.refusals.specs.Outcome.{answer};
 ghost use Rattle.duplex_partition.specs.Partition.{strand_of, read_strand, offence, first_offence, mi_leaves, any_mi_leaves, on_a, on_b, base_mi, PartitionedAs};
 
@@ -41,6 +42,8 @@ pub struct Partition {
     pub base_mi: Option<BaseMi>,
 }
 
+// How many numbers each list has. Not duplex_reads's StrandCounts, nor one type for both: that is what a gate compares with its
+// thresholds, in their u32; these become a Partition's lengths, and neither crate uses the other.
 #[derive(Clone, Copy)]
 struct Counts {
     a: usize,
@@ -104,9 +107,9 @@ impl MiReads<'_> {
         Ok(())
     }
 
-    // Writes the numbers of the reads of A and of B, and answers how many. 1,024 is MAX_READS, up to which a read's number fits its 16 bits.
+    // Writes the numbers of the reads of A and of B, and answers how many. So few that a read's number fits its 16 bits.
     fn write_partition(self, a_out: &mut [u16], b_out: &mut [u16]) -> Counts
-        requires reads_len_bound { length self.reads.now ≤ 1024 }
+        requires reads_len_bound { FewReads self.reads.now }
         requires reads_in_bounds { (length self.reads.now ≤ length a_out.old) × (length self.reads.now ≤ length b_out.old) }
         ensures a_value { (result.a ≡ length (on_a self.entry.bytes.now self.entry.reads.now)) × (result.b ≡ length (on_b self.entry.bytes.now self.entry.reads.now)) }
         ensures a_out_after { a_out.new ≡ put (on_a self.entry.bytes.now self.entry.reads.now) a_out.old }

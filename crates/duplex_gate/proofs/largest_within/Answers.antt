@@ -15,6 +15,6 @@ returns c =
     let both = c.min-both.result in
     let turns : length c.loop-of_a.yielded ≡ min (length (take both r.ab.now)) (length (take both r.ba.now)) = zip_end (take both r.ab.now) (take both r.ba.now) c.loop-of_a.yielded _ _ c.next.new.self _ (search rules) (search rules) c.loop-of_a.yielded_by c.in-None.is c.next.ensures.steps in
     let ended : length c.loop-of_a.yielded ≡ both = omega (arith, turns, length-take both r.ab.now, length-take both r.ba.now) in (
-      c.max.ensures ∙ all_of r.positions both r.ab.now c.min-ab_end.ensures (omega arith) (c.loop-of_a.invariant.0 ∙ ap (λ (n : ℕ). largest_within n r.ab.now) ended) c.largest.ensures,
-      c.max-2.ensures ∙ all_of r.positions both r.ba.now c.min-ba_end.ensures (omega arith) (c.loop-of_a.invariant.1 ∙ ap (λ (n : ℕ). largest_within n r.ba.now) ended) c.largest-2.ensures,
+      c.from.ensures ∙ c.max.ensures ∙ all_of r.positions both r.ab.now c.min-ab_end.ensures (omega arith) (c.loop-of_a.invariant.0 ∙ ap (λ (n : ℕ). largest_within n r.ab.now) ended) c.largest.ensures,
+      c.from-2.ensures ∙ c.max-2.ensures ∙ all_of r.positions both r.ba.now c.min-ba_end.ensures (omega arith) (c.loop-of_a.invariant.1 ∙ ap (λ (n : ℕ). largest_within n r.ba.now) ended) c.largest-2.ensures,
     )
