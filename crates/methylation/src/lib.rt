@@ -4,10 +4,10 @@
 
 ghost use Rattle.std.specs.Prelude.{◌≡◌};
 ghost use Rattle.methylation.specs.Choices.{pattern_number, pattern_of, wrong_pattern, pattern_in, mode_of, wrong_mode, mode_in};
-ghost use Rattle.methylation.specs.Arrays.{evidence_arrays, evidence_in, evidence_places, evidence_lengths, evidence_of_length, evidence_fronts, evidence_too_long, evidence_ragged, evidence_uneven, evidence_too_short};
+ghost use Rattle.methylation.specs.Arrays.{evidence_arrays, evidence_in, evidence_places, annotated_lengths, evidence_lengths, evidence_of_length, evidence_fronts, evidence_too_long, evidence_ragged, evidence_uneven, evidence_too_short};
 ghost use Rattle.methylation.specs.Outputs.{evidence_out, no_evidence};
 ghost use Rattle.methylation.specs.Annotation.{pattern_held, evidence_held, evidence_seen};
-ghost use Rattle.methylation.specs.Methylation.{is_enabled, pattern_of_flags, pattern_bases, is_annotated, is_cg, is_cpg_context, evidence_if};
+ghost use Rattle.methylation.specs.Methylation.{is_enabled, pattern_of_flags, pattern_bases, is_cg, is_cpg_context, evidence_if};
 
 use dna::eq_ignore_ascii_case;
 use flags::{LAST_SEGMENT, is_set};
@@ -265,6 +265,20 @@ impl<'a> MethylationAnnotation<'a> {
     }
 }
 
+// The evidence of an annotation; without one none.
+pub fn evidence_of<'a>(annotation: Option<MethylationAnnotation<'a>>) -> EvidenceSlices<'a>
+    ensures { evidence_in result ≡ evidence_held annotation.entry }
+{
+    annotation.map_or(EvidenceSlices::none(), |m| m.evidence)
+}
+
+// How long that is; without an annotation there are no lengths.
+pub fn lengths_of(annotation: Option<MethylationAnnotation<'_>>) -> Option<EvidenceLengths>
+    ensures { result ≡ annotated_lengths (pattern_held annotation.entry) (evidence_held annotation.entry) }
+{
+    annotation.map(|m| m.evidence.lengths())
+}
+
 impl<'a> EvidenceSlices<'a> {
     pub fn new(marks: &'a [u8], unconverted: &'a [u32], converted: &'a [u32]) -> EvidenceSlices<'a>
         ensures { evidence_in result ≡ evidence_arrays marks.now unconverted.now converted.now }
@@ -316,7 +330,7 @@ pub fn evidence_too_long(e: EvidenceLengths) -> bool
 pub fn evidence_ragged(e: EvidenceLengths) -> bool
     ensures { result ≡ evidence_ragged e }
 {
-    (e.unconverted != e.marks) | (e.converted != e.marks)
+    evidence_uneven(e.marks, e)
 }
 
 // The same beside n bases.
@@ -333,7 +347,18 @@ pub fn evidence_too_short(n: usize, out: EvidenceLengths) -> bool
     (out.marks < n) | ((out.unconverted < n) | (out.converted < n))
 }
 
-impl EvidenceOutputs<'_> {
+impl<'a> EvidenceOutputs<'a> {
+    // Those of no annotation.
+    pub fn none() -> EvidenceOutputs<'a>
+        ensures { evidence_out result ≡ no_evidence }
+    {
+        EvidenceOutputs {
+            marks: &mut [],
+            unconverted: &mut [],
+            converted: &mut [],
+        }
+    }
+
     // Not by that of `EvidenceSlices`: to read the outputs as such would name each of the three once more.
     pub fn lengths(&self) -> EvidenceLengths
         ensures { result ≡ evidence_lengths (evidence_out self.now) }

@@ -48,12 +48,25 @@ pub fn gate_to_informative(out: &mut EvidenceOutputs<'_>) -> Result<usize, Refus
 }
 
 // Writes as many marks as there is room for, as 0 or 1, to the front of out.
-pub fn copy_marks(marks: &[u8], out: &mut [u8])
+fn copy_marks(marks: &[u8], out: &mut [u8])
     ensures { out.new ≡ put (take (length out.old) (map mark marks.now)) out.old }
 {
+    // The output by its place: of what is written through `iter_mut` the proof learns nothing.
     for (i, &mark) in front(marks, out.len()).iter().enumerate() {
         out[i] = mark_of(mark);
     }
+}
+
+// Writes as much evidence as there is room for, with marks as 0 or 1, each array to the front of its own output.
+pub fn copy_evidence(evidence: EvidenceSlices<'_>, out: &mut EvidenceOutputs<'_>)
+    ensures same_references { SameEvidence out.old out.new }
+    ensures marks { out.new.marks.now ≡ put (take (length out.old.marks.now) (map mark evidence.entry.marks.now)) out.old.marks.now }
+    ensures unconverted { out.new.unconverted.now ≡ put (take (length out.old.unconverted.now) evidence.entry.unconverted.now) out.old.unconverted.now }
+    ensures converted { out.new.converted.now ≡ put (take (length out.old.converted.now) evidence.entry.converted.now) out.old.converted.now }
+{
+    copy_marks(evidence.marks, out.marks);
+    copy(evidence.unconverted, out.unconverted);
+    copy(evidence.converted, out.converted);
 }
 
 // Writes the first len positions of an annotation, or all where it has no more, with marks as 0 or 1, and answers how many.
@@ -71,10 +84,7 @@ pub fn truncate(
     refuse(evidence_too_long(evidence.lengths()), Refusal::TooLong)?;
     refuse(evidence_ragged(evidence.lengths()), Refusal::Ragged)?;
     refuse(evidence_too_short(n, room), Refusal::OutputTooShort)?;
-    let within = evidence.front(len);
-    copy_marks(within.marks, out.marks);
-    copy(within.unconverted, out.unconverted);
-    copy(within.converted, out.converted);
+    copy_evidence(evidence.front(len), out);
     Ok(n)
 }
 
@@ -94,6 +104,7 @@ pub fn tag_counts(counts: &[u32], out: &mut [u16]) -> Result<usize, Refusal>
     let n = counts.len();
     refuse(MAX_POSITIONS < n, Refusal::TooLong)?;
     refuse(out.len() < n, Refusal::OutputTooShort)?;
+    // The output by its place, as in `copy_marks`.
     for (i, &count) in counts.iter().enumerate() {
         out[i] = tag_count(count);
     }

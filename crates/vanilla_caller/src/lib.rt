@@ -9,8 +9,8 @@ ghost use Rattle.methylation.specs.Arrays.{evidence_in};
 ghost use Rattle.vanilla_caller.specs.Strand.{arrays, annotation_in, arrays_in, with_evidence, arrays_seen, plain, lengths, mark, strand_too_long, strand_ragged, outputs_too_short};
 
 use methylation::{
-    ConversionPattern, EvidenceLengths, EvidenceSlices, MethylationAnnotation, evidence_too_long,
-    evidence_too_short, evidence_uneven,
+    ConversionPattern, EvidenceLengths, EvidenceSlices, MethylationAnnotation, evidence_of,
+    evidence_too_long, evidence_too_short, evidence_uneven, lengths_of,
 };
 use numbers::{largest, smallest};
 use refusals::{MAX_POSITIONS, Refusal, refuse};
@@ -67,8 +67,7 @@ impl<'a> VanillaConsensusRead<'a> {
     pub fn evidence(self) -> EvidenceSlices<'a>
         ensures { evidence_in result ≡ evidence_held self.entry.methylation }
     {
-        self.methylation
-            .map_or(EvidenceSlices::none(), |m| m.evidence)
+        evidence_of(self.methylation)
     }
 
     // The strand with this annotation and its evidence, or with none.
@@ -105,7 +104,7 @@ impl<'a> VanillaConsensusRead<'a> {
             quals: self.quals.len(),
             depths: self.depths.len(),
             errors: self.errors.len(),
-            evidence: self.methylation.map(|m| m.evidence.lengths()),
+            evidence: lengths_of(self.methylation),
         }
     }
 }
@@ -132,7 +131,7 @@ pub fn strand_too_long(s: Lengths) -> bool
 {
     let four = (MAX_POSITIONS < s.bases)
         | ((MAX_POSITIONS < s.quals) | ((MAX_POSITIONS < s.depths) | (MAX_POSITIONS < s.errors)));
-    four | s.evidence.is_some_and(|e| evidence_too_long(e))
+    four | s.evidence.is_some_and(evidence_too_long)
 }
 
 // Row 8's condition for a strand.
