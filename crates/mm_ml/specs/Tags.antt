@@ -33,7 +33,9 @@ annotated bases pattern marks unconverted converted = record {
 
 -- Those that are lent.
 abbrev pub annotated_in : AnnotatedBases → Annotated
-annotated_in s = annotated s.bases.now s.pattern s.evidence.marks.now s.evidence.unconverted.now s.evidence.converted.now
+annotated_in s =
+    let m = s.annotation in
+    annotated s.bases.now m.pattern m.evidence.marks.now m.evidence.unconverted.now m.evidence.converted.now
 
 unfoldable pub called_at : Annotated → ℕ → Bool
 called_at s i = is_called s.pattern (get_or s.bases i 0) (get_or s.marks i 0) (get_or s.unconverted i 0) (get_or s.converted i 0)

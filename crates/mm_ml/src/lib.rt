@@ -10,7 +10,7 @@ ghost use Rattle.mm_ml.specs.Tags.{annotated_in, called_at, all_calls, all_text,
 use decimal::write_decimal;
 use lists::copy;
 use methylation::{
-    ConversionPattern, Evidence, EvidenceSlices, MethylationMode, evidence_too_long,
+    ConversionPattern, Evidence, MethylationAnnotation, MethylationMode, evidence_too_long,
     evidence_uneven,
 };
 use methylation_calls::{is_called, is_tracked, ml_of};
@@ -26,8 +26,7 @@ pub const G_TO_A_PREFIX: [u8; 4] = *b"G-m?";
 #[derive(Clone, Copy)]
 pub struct AnnotatedBases<'a> {
     pub bases: &'a [u8],
-    pub pattern: ConversionPattern,
-    pub evidence: EvidenceSlices<'a>,
+    pub annotation: MethylationAnnotation<'a>,
 }
 
 // A strand that no row refuses: evidence for each base, and at most 1,024 of them.
@@ -37,8 +36,8 @@ struct EvidentBases<'a> {
     ghost evident: { Evident (annotated_in strand) },
 }
 
-// How many bytes a strand's MM text and ML array have.
-#[derive(Clone, Copy)]
+// How many bytes a strand's MM text and ML array have; by default none.
+#[derive(Clone, Copy, Default)]
 pub struct TagLengths {
     pub mm: usize,
     pub ml: usize,
@@ -70,6 +69,7 @@ fn skip_length(skip: usize) -> usize
 }
 
 // A comma and a skip count at a place of mm; answers the place after them. By slices, no `write!`: no heap.
+// No `line_output::Writer`: a tag's layer knows nothing of the printed line's (docs/ARCHITECTURE.md).
 fn write_skip(mm: &mut [u8], at: usize, skip: usize) -> usize
     requires { at + length (44 ∷ decimal skip) ≤ length mm.old }
     ensures value { result ≡ at + length (44 ∷ decimal skip) }
@@ -87,13 +87,13 @@ impl EvidentBases<'_> {
         requires { i < length self.strand.bases.now }
         ensures { result ≡ called_at (annotated_in self.entry.strand) i }
     {
-        let s = self.strand;
-        let evidence = Evidence {
-            mark: s.evidence.marks[i],
-            unconverted: s.evidence.unconverted[i],
-            converted: s.evidence.converted[i],
+        let MethylationAnnotation { pattern, evidence } = self.strand.annotation;
+        let here = Evidence {
+            mark: evidence.marks[i],
+            unconverted: evidence.unconverted[i],
+            converted: evidence.converted[i],
         };
-        is_called(s.pattern, s.bases[i], evidence)
+        is_called(pattern, self.strand.bases[i], here)
     }
 
     // The length of the listed skip counts, and how many there are. A turn chooses between values and not between ways, since
@@ -105,6 +105,8 @@ impl EvidentBases<'_> {
         let mut mm = 0;
         let mut ml = 0;
         let mut skip = 0;
+        // By place, here and in `write_mm_ml`: whether a base is called three arrays more tell at its place, and by `zip`s the four would
+        // come as pairs in pairs.
         for (i, &base) in s.bases.iter().enumerate() {
             let called = self.called_at(i);
             let listed = usize::from(called);
@@ -113,7 +115,7 @@ impl EvidentBases<'_> {
             skip = if called {
                 0
             } else {
-                skip + usize::from(is_tracked(s.pattern, base))
+                skip + usize::from(is_tracked(s.annotation.pattern, base))
             };
         }
         TagLengths { mm, ml }
@@ -144,18 +146,19 @@ impl EvidentBases<'_> {
         ensures mm_after { mm.new ≡ put (all_text (annotated_in self.entry.strand)) mm.old }
         ensures ml_after { ml.new ≡ put (all_bytes mode (annotated_in self.entry.strand)) ml.old }
     {
-        let s = self.strand;
-        copy(&mm_prefix(s.pattern), mm);
+        let MethylationAnnotation { pattern, evidence } = self.strand.annotation;
+        copy(&mm_prefix(pattern), mm);
+        // The outputs by their places: of what is written through `iter_mut` the proof learns nothing.
         let mut place = 4;
         let mut count = 0;
         let mut skip = 0;
-        for (i, &base) in s.bases.iter().enumerate() {
+        for (i, &base) in self.strand.bases.iter().enumerate() {
             if self.called_at(i) {
                 place = write_skip(mm, place, skip);
-                ml[count] = ml_of(mode, s.evidence.unconverted[i], s.evidence.converted[i]);
+                ml[count] = ml_of(mode, evidence.unconverted[i], evidence.converted[i]);
                 count += 1;
                 skip = 0;
-            } else if is_tracked(s.pattern, base) {
+            } else if is_tracked(pattern, base) {
                 skip += 1;
             }
         }
@@ -176,7 +179,7 @@ pub fn build_mm_ml_tags(
     ensures { TaggedAs mode (annotated_in s.entry) mm.old ml.old mm.new ml.new result }
 {
     let n = s.bases.len();
-    let evidence = s.evidence.lengths();
+    let evidence = s.annotation.evidence.lengths();
     refuse(
         (MAX_POSITIONS < n) | evidence_too_long(evidence),
         Refusal::TooLong,

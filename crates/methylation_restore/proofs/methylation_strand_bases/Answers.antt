@@ -13,7 +13,8 @@ pub returns-in-Some-clause-out_after : goal.returns-in-Some-clause-out_after
 returns-in-Some-clause-out_after c =
     let a = c.args in
     let room : length a.bases.now ≤ length a.out.now = grind (arith, common_steps) in
-    let as_many : length a.marks.now ≡ length a.bases.now = grind (arith, common_steps) in
-    let written : c.restore.new.bases ≡ put (restored c.in-Some.pattern a.marks.now a.bases.now) a.out.now =
-    (rw (c.bases.ensures, c.copy.ensures ∙ put_fitting _ _ room) at c.restore.ensures) ∙ restored_copy (pattern_bases c.in-Some.pattern) a.marks.now a.bases.now a.out.now as_many in
+    let m = c.in-Some.m in
+    let as_many : length m.evidence.marks.now ≡ length a.bases.now = grind (arith, common_steps) in
+    let written : c.restore.new.bases ≡ put (restored m.pattern m.evidence.marks.now a.bases.now) a.out.now =
+    (rw (c.bases.ensures, c.copy.ensures ∙ put_fitting _ _ room) at c.restore.ensures) ∙ restored_copy (pattern_bases m.pattern) m.evidence.marks.now a.bases.now a.out.now as_many in
     grind (arith, common_steps)

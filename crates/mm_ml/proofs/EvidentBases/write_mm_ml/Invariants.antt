@@ -5,5 +5,5 @@ use Rattle.mm_ml.proofs.EvidentBases.write_mm_ml.Given as goal
 
 abbrev pub invariant-loop-i : goal.invariant-loop-i
 invariant-loop-i l =
-    let s = annotated_in l.s in
+    let s = annotated_in l.self.strand in
     Writing s l.initial.mm l.i l.skip l.place l.mm × Scoring s l.mode l.initial.ml l.i l.count l.ml
