@@ -1,5 +1,5 @@
-// Entry points over numbers as they are: two strands combined, and a strand alone as a record. Uses refusals, replies,
-// duplex_strands, duplex_annotated and duplex_single.
+// Entry points over numbers as they are: two strands combined, and a strand alone as a record. Uses methylation, replies,
+// vanilla_caller, duplex_molecule, duplex_outputs, duplex_strands, duplex_annotated and duplex_single.
 #![tactic(auto)]
 
 ghost use Rattle.std.specs.Prelude.{◌||◌, None, []};
@@ -97,8 +97,7 @@ pub extern "C" fn gedrashiw_combine_strands_annotated(
         (record_of bases_out.new quals_out.new errors_out.new a_marks_out.new a_unconverted_out.new a_converted_out.new b_marks_out.new b_unconverted_out.new b_converted_out.new)
         result }
 {
-    // No `?`: its function would have this whole contract once more. A closure was tried (rust_padded): of outputs that it takes along
-    // nothing is known where it is not called.
+    // No `?`: no plainer, a function between would have this contract once more, over a Result. A closure was tried in rust_padded.
     let (a_annotation, b_annotation) = match annotations_in(a_annotation, b_annotation) {
         Ok(annotations) => annotations,
         Err(refusal) => return Count::from(refusal),
@@ -156,8 +155,7 @@ pub extern "C" fn gedrashiw_gated_single_strand(
         (record_of bases_out.new quals_out.new errors_out.new marks_out.new unconverted_out.new converted_out.new [] [] [])
         result }
 {
-    // No `?`: its function would have this whole contract once more. A closure was tried (rust_padded): of outputs that it takes along
-    // nothing is known where it is not called.
+    // No `?`: no plainer, a function between would have this contract once more, over a Result. A closure was tried in rust_padded.
     let annotation = match annotation_in(annotation) {
         Ok(annotation) => annotation,
         Err(refusal) => return Count::from(refusal),

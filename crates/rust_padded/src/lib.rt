@@ -55,8 +55,8 @@ pub extern "C" fn gedrashiw_padded(
         (arrays bases_out.new quals_out.new depths_out.new errors_out.new marks_out.new unconverted_out.new converted_out.new)
         result }
 {
-    // No `?`: a function that answers a Result would have this whole contract once more, and of an output that a closure takes along
-    // nothing is known where the closure is not called.
+    // No `?`: no plainer, a function between would have this contract once more, over a Result. By `and_then`, which was tried here, the
+    // proof did not close: of outputs that a closure takes along nothing is known where it is not called.
     let annotation = match annotation_in(annotation) {
         Ok(annotation) => annotation,
         Err(refusal) => return Number::from(refusal),
@@ -88,7 +88,8 @@ pub extern "C" fn gedrashiw_padded(
     Number::from(kept.map(annotation_number))
 }
 
-// The same with the base n and the quality 2.
+// The same with the base n and the quality 2. By the entry above and not by `padded_default`: that would read the annotation and take the
+// strand and its outputs together once more.
 #[unsafe(no_mangle)]
 pub extern "C" fn gedrashiw_padded_default(
     bases: &[u8],

@@ -17,15 +17,15 @@ ghost use Rattle.vanilla_padded.specs.Padding.{padding, default_padding, pad_to,
 use dna::NO_CALL_BASE_LOWER;
 use lists::copy;
 use methylation::{ConversionPattern, EvidenceLengths, EvidenceOutputs, MethylationAnnotation};
-use methylation_evidence::copy_marks;
+use methylation_evidence::copy_evidence;
 use phred::MIN_PHRED;
 use refusals::{MAX_POSITIONS, Refusal, refuse};
 use vanilla_caller::{
     Lengths, VanillaConsensusRead, outputs_too_short, strand_ragged, strand_too_long,
 };
 
-// A strand's own outputs; those for its evidence stand beside them. A function that is lent them leaves each slice where it is
-// (specs/Lent.antt).
+// A strand's own outputs; those for its evidence stand beside them, since who makes a struct of lent structs learns nothing of what their
+// slices hold. A function that is lent them leaves each slice where it is (specs/Lent.antt).
 #[derive(Drop)]
 pub struct StrandOutputs<'a> {
     pub bases: &'a mut [u8],
@@ -98,9 +98,7 @@ fn write_evidence(annotation: Option<MethylationAnnotation<'_>>, out: &mut Evide
     ensures converted { out.new.converted.now ≡ put (only_if (is_annotated (pattern_held annotation.entry)) (take (length out.old.converted.now) (evidence_held annotation.entry).converted)) out.old.converted.now }
 {
     if let Some(m) = annotation {
-        copy_marks(m.evidence.marks, out.marks);
-        copy(m.evidence.unconverted, out.unconverted);
-        copy(m.evidence.converted, out.converted);
+        copy_evidence(m.evidence, out);
     }
 }
 
@@ -136,7 +134,8 @@ pub fn padded(
     Ok(annotation)
 }
 
-// padded with the base n and the quality 2.
+// padded with the base n and the quality 2. The Rust's own call, which stands for who calls it by that name: rust_padded's entry goes by
+// its other entry, with the two values.
 pub fn padded_default(
     strand: VanillaConsensusRead<'_>,
     new_length: usize,
