@@ -4,7 +4,6 @@
 
 ghost use Rattle.std.specs.Prelude.{◌≡◌, None, length};
 ghost use Rattle.refusals.specs.Outcome.{answer};
-ghost use Rattle.methylation.specs.Arrays.{evidence_in};
 ghost use Rattle.methylation_evidence.specs.Counts.{tag_counts, summed_counts};
 ghost use Rattle.duplex_texts.specs.Lent.{texts_out, SameTexts};
 ghost use Rattle.duplex_texts.specs.Texts.{strand_in};
@@ -13,8 +12,10 @@ ghost use Rattle.duplex_tags.specs.Tags.{kind_arrays};
 ghost use Rattle.duplex_tags.specs.Outputs.{kind_too_short, LeavesKind, DuplexTaggedAs};
 ghost use Rattle.duplex_tags.specs.Parts.{needed_counts, counts_refused, Countable};
 
-use duplex_texts::{TextLengths, TextOutputs, duplex_texts, given_refusal, lengths_of};
-use methylation::{EvidenceLengths, EvidenceSlices, MethylationAnnotation, MethylationMode};
+use duplex_texts::{TextLengths, TextOutputs, duplex_texts, given_refusal};
+use methylation::{
+    EvidenceLengths, MethylationAnnotation, MethylationMode, evidence_of, lengths_of,
+};
 use methylation_evidence::{summed_counts, tag_counts};
 use refusals::{Refusal, refuse};
 
@@ -48,6 +49,7 @@ impl<T> KindOutputs<'_, T> {
 }
 
 // How many counts of one kind go to each output: none of a strand without evidence.
+// Not by methylation's `evidence_places`, which asks for a pattern, and here are lengths: all that the two share is what `map_or` is.
 // The strands are two operands, here and below: a struct of both would be taken apart for each one's counts.
 fn needed_counts(
     positions: usize,
@@ -84,13 +86,6 @@ pub fn counts_refusal(
     let needed = needed_counts(bases, a, b);
     let too_short = kind_too_short(needed, unconverted) | kind_too_short(needed, converted);
     refuse(too_short, Refusal::OutputTooShort)
-}
-
-// The evidence of a strand's annotation; without one none.
-fn evidence_of<'a>(s: Option<MethylationAnnotation<'a>>) -> EvidenceSlices<'a>
-    ensures { evidence_in result ≡ (strand_in s.entry).evidence }
-{
-    s.map_or(EvidenceSlices::none(), |annotation| annotation.evidence)
 }
 
 // Writes each strand's counts of one kind, and their sums over the sequence. No call is refused here.

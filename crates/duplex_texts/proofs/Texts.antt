@@ -33,8 +33,8 @@ use Rattle.duplex_texts.specs.Texts.{Strand, strand_in, restored_seq, against, b
 use Rattle.duplex_texts.specs.Parts.{AsLong, TextsAs}
 use Rattle.duplex_texts.proofs.Fits.{restore_fits, tags_fit}
 use Rattle.std.proofs.Common.{None, Some, Option, Result}
-use Rattle.std.specs.Prelude.{unwrap_or}
-use Rattle.std.specs.Result.{result_unwrap_or}
+use Rattle.std.specs.Option.{UnwrapsOrElse, option_flatten}
+use Rattle.std.specs.Result.{result_ok}
 
 pub strand_length : (annotation : Option ConversionPattern) (marks bases : List ℕ) → length (strand_bases annotation marks bases) ≡ length bases
 strand_length None marks bases = refl
@@ -65,10 +65,14 @@ module _ (annotation : Option ConversionPattern) (marks xs out : List ℕ) {L Y 
       let there : Y ≡ strand_bases annotation marks xs = rw here at y in
       rw (there, e, h, drop-append_seam, strand_length annotation marks xs)
 
+-- No bytes, as the default of `TagLengths` says.
+abbrev NoBytes : TagLengths → Type 0
+NoBytes r = (r.mm ≡ 0) × (r.ml ≡ 0)
+
 -- A strand without an annotation.
-pub no_texts : (mode : MethylationMode) (seq mm ml : List ℕ) (s : Strand) → s.annotation ≡ None → TextsAs mode seq s mm ml mm ml (record { mm = 0; ml = 0 })
+pub no_texts : (mode : MethylationMode) (seq mm ml : List ℕ) (s : Strand) {r : TagLengths} → s.annotation ≡ None → NoBytes r → TextsAs mode seq s mm ml mm ml r
 unfolding strand_mm strand_ml put
-no_texts mode seq mm ml s e = record { mm_length = rw e; ml_length = rw e; text = rw e; bytes = rw e }
+no_texts mode seq mm ml s e none = record { mm_length = rw e none.0; ml_length = rw e none.1; text = rw e; bytes = rw e }
 
 -- What no row refuses, of a strand with an annotation.
 evident : (seq : List ℕ) (s : Strand) {pattern : ConversionPattern} → s.annotation ≡ Some pattern → AsLong (length seq) s → Evident (against seq s pattern)
@@ -76,41 +80,35 @@ evident seq s is long =
     let here = ap is_annotated is in
     record { few = long.few; marks = long.marks here; unconverted = long.unconverted here; converted = long.converted here }
 
--- How many bytes `build_mm_ml_tags` wrote.
-abbrev nothing : TagLengths
-nothing = record { mm = 0; ml = 0 }
-
-abbrev pub lengths_of : Result (Option TagLengths) Refusal → TagLengths
-lengths_of told = unwrap_or (result_unwrap_or told None) nothing
-
--- The lengths that are answered where something is called, and where nothing is.
-told_lengths : (mode : MethylationMode) (s : Annotated) → unwrap_or (tag_lengths mode s) nothing ≡ record { mm = length (mm_text mode s); ml = length (ml_array mode s) }
+-- The lengths that are told where something is called, and where nothing is.
+told_lengths : (mode : MethylationMode) (s : Annotated) {r : TagLengths} → UnwrapsOrElse (tag_lengths mode s) NoBytes r → (r.mm ≡ length (mm_text mode s)) × (r.ml ≡ length (ml_array mode s))
 unfolding mm_text ml_array
 told_lengths mode s = go (calls mode s)
   where
-    go : (ps : List ℕ) → unwrap_or (tags_if_called ps (length (if_called ps (all_text s))) (length (map (ml_byte mode s) ps))) nothing ≡ record { mm = length (if_called ps (all_text s)); ml = length (map (ml_byte mode s) ps) }
-    go [] = refl
-    go (p ∷ ps) = refl
+    go : (ps : List ℕ) {r : TagLengths} → UnwrapsOrElse (tags_if_called ps (length (if_called ps (all_text s))) (length (map (ml_byte mode s) ps))) NoBytes r → (r.mm ≡ length (if_called ps (all_text s))) × (r.ml ≡ length (map (ml_byte mode s) ps))
+    go [] told = told
+    go (p ∷ ps) told = rw told (refl, refl)
 
 -- With one, its tags are made in buffers that have room for any.
 pub some_texts :
-    (mode : MethylationMode) (seq mm ml : List ℕ) {s : Option MethylationAnnotation} {m : MethylationAnnotation} {mm_now ml_now : List ℕ} {told : Result (Option TagLengths) Refusal}
+    (mode : MethylationMode) (seq mm ml : List ℕ) {s : Option MethylationAnnotation} {m : MethylationAnnotation} {mm_now ml_now : List ℕ} {told : Result (Option TagLengths) Refusal} {r : TagLengths}
     → s ≡ Some m
     → AsLong (length seq) (strand_in s)
     → (5125 ≤ length mm) × (1024 ≤ length ml)
     → TaggedAs mode (against seq (strand_in (Some m)) m.pattern) mm ml mm_now ml_now told
-    → TextsAs mode seq (strand_in s) mm ml mm_now ml_now (lengths_of told)
+    → UnwrapsOrElse (option_flatten (result_ok told)) NoBytes r
+    → TextsAs mode seq (strand_in s) mm ml mm_now ml_now r
 unfolding strand_mm strand_ml
-some_texts mode seq mm ml {m = m} is long room t =
+some_texts mode seq mm ml {m = m} is long room t lengths =
     let strand = against seq (strand_in (Some m)) m.pattern in
     let ev = evident seq (strand_in (Some m)) refl (rw is at long) in
     let text_fits = group.mm_most strand ev.few mode in
     let bytes_fit = group.ml_most strand ev.few mode in
     let fits = tags_fit mode strand mm ml ev (omega (arith, text_fits, room.0, ev.few)) (omega (arith, bytes_fit, room.1, ev.few)) in
-    let known = ap lengths_of (rw fits at t.answered) ∙ told_lengths mode strand in
+    let known = told_lengths mode strand (rw (rw fits at t.answered) at lengths) in
     rw is (record {
-      mm_length = ap (λ (n : TagLengths). n.mm) known;
-      ml_length = ap (λ (n : TagLengths). n.ml) known;
+      mm_length = known.0;
+      ml_length = known.1;
       text = rw fits at t.mm_text_is;
       bytes = rw fits at t.ml_array_is;
     })

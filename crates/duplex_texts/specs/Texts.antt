@@ -55,8 +55,8 @@ unfoldable pub strand_ml : MethylationMode → List ℕ → Strand → List ℕ
 strand_ml mode seq s =
     by_pattern s.annotation (λ pattern. ml_array mode (against seq s pattern))
 
--- The order of the strands' groups: C to T first, otherwise that of the strands. So the second strand's comes first where it
--- alone is of pattern C to T.
+-- The order of the strands' groups: C to T first, otherwise that of the strands. So the second strand's comes first where the
+-- first is of pattern G to A and the second of C to T.
 abbrev pub second_first : Option ConversionPattern → Option ConversionPattern → Bool
 second_first (Some GToA) (Some CToT) = true
 second_first (Some GToA) (Some GToA) = false

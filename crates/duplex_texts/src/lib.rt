@@ -1,4 +1,5 @@
-// The sequence, MM and ML of a duplex record, from methylation.rs. Uses lists, refusals, methylation, methylation_restore and mm_ml.
+// The sequence, MM and ML of a duplex record, from methylation.rs. Uses lists, refusals, methylation, duplex_molecule, methylation_restore
+// and mm_ml.
 #![tactic(auto)]
 
 ghost use Rattle.std.specs.Prelude.{◌≡◌, ◌+◌, ◌≤◌, length};
@@ -8,13 +9,14 @@ ghost use Rattle.refusals.specs.Outcome.{answer};
 ghost use Rattle.duplex_texts.specs.Lent.{texts_out, SameTexts};
 ghost use Rattle.duplex_texts.specs.Texts.{strand_in, duplex_seq, second_first, grouped};
 ghost use Rattle.methylation_restore.specs.Restore.{strand_bases};
-ghost use Rattle.duplex_texts.specs.Outputs.{text_lengths, strand_lengths, long, uneven, given_faults, texts_too_short, DuplexTextsAs};
+ghost use Rattle.duplex_texts.specs.Outputs.{text_lengths, long, uneven, given_faults, texts_too_short, DuplexTextsAs};
 ghost use Rattle.duplex_texts.specs.Parts.{AsLong, TextsAs, needed_for};
 
+use duplex_molecule::{CtInput, ct_input};
 use lists::{copy, front};
 use methylation::{
-    ConversionPattern, EvidenceLengths, MethylationAnnotation, MethylationMode, evidence_too_long,
-    evidence_uneven,
+    EvidenceLengths, MethylationAnnotation, MethylationMode, evidence_too_long, evidence_uneven,
+    lengths_of,
 };
 use methylation_restore::restore_unconverted_bases;
 use mm_ml::{AnnotatedBases, TagLengths, build_mm_ml_tags};
@@ -40,13 +42,6 @@ pub struct TextLengths {
     pub ml: usize,
 }
 
-// How long the evidence of a strand's annotation is.
-pub fn lengths_of(s: Option<MethylationAnnotation>) -> Option<EvidenceLengths>
-    ensures { result ≡ strand_lengths (strand_in s.entry) }
-{
-    s.map(|annotation| annotation.evidence.lengths())
-}
-
 impl TextOutputs<'_> {
     fn lengths(&self) -> TextLengths
         ensures { result ≡ text_lengths (texts_out self.now) }
@@ -65,7 +60,7 @@ impl TextOutputs<'_> {
 fn is_long(s: Option<EvidenceLengths>) -> bool
     ensures { result ≡ long s }
 {
-    s.is_some_and(|e| evidence_too_long(e))
+    s.is_some_and(evidence_too_long)
 }
 
 // Row 8's condition for a strand beside so many bases.
@@ -90,12 +85,14 @@ pub fn given_refusal(
 }
 
 // Restores a sequence by a strand's annotation. No call is refused here.
+// What no row refuses (`AsLong`) stands in the requires, here and below: of a struct that holds it as a ghost, each function would ask
+// instead that its length is the sequence's.
 fn restore_by(s: Option<MethylationAnnotation>, seq: &mut [u8])
     requires { AsLong (length seq.old) (strand_in s) }
     ensures { seq.new ≡ strand_bases (strand_in s.entry).annotation (strand_in s.entry).evidence.marks seq.old }
 {
     if let Some(annotation) = s {
-        let _ = restore_unconverted_bases(seq, annotation.pattern, annotation.evidence.marks);
+        let _ = restore_unconverted_bases(seq, annotation);
     }
 }
 
@@ -128,19 +125,18 @@ fn strand_texts(
     requires room { (5125 ≤ length mm.old) × (1024 ≤ length ml.old) }
     ensures { TextsAs mode seq.now (strand_in s.entry) mm.old ml.old mm.new ml.new result }
 {
-    let none = TagLengths { mm: 0, ml: 0 };
     let Some(annotation) = s else {
-        return none;
+        return TagLengths::default();
     };
     let strand = AnnotatedBases {
         bases: seq,
-        pattern: annotation.pattern,
-        evidence: annotation.evidence,
+        annotation,
     };
     // Not refused here; and where nothing is called there is no tag.
     build_mm_ml_tags(strand, mode, mm, ml)
-        .unwrap_or(None)
-        .unwrap_or(none)
+        .ok()
+        .flatten()
+        .unwrap_or_default()
 }
 
 // How many places go to each output.
@@ -166,14 +162,12 @@ fn is_too_short(needed: TextLengths, out: TextLengths) -> bool
             | ((out.b_mm < needed.b_mm) | ((out.mm < needed.mm) | (out.ml < needed.ml))))
 }
 
-// Whether the second strand's group goes first: it alone is of pattern C to T.
+// Whether the second strand's group goes first: the first is of pattern G to A and the second of C to T.
+#[tactic(auto, unfolding(duplex_molecule::specs::Molecule::ct_input))]
 fn is_second_first(a: Option<MethylationAnnotation>, b: Option<MethylationAnnotation>) -> bool
     ensures { result ≡ second_first (strand_in a.entry).annotation (strand_in b.entry).annotation }
 {
-    matches!(
-        (a.map(|s| s.pattern), b.map(|s| s.pattern)),
-        (Some(ConversionPattern::GToA), Some(ConversionPattern::CToT))
-    )
+    ct_input(a.map(|s| s.pattern), b.map(|s| s.pattern)) == CtInput::IsB
 }
 
 // Writes what each strand has, one behind the other, in the order of their groups.

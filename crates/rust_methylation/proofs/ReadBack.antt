@@ -24,6 +24,7 @@ text_back (Some length) = refl
 
 pub read_back : ReadBack
 read_back = record {
+  handed_on = λ number. refl;
   mm_ml_is = record { refusals = λ row. refl; passes = tags_pass; answers = tags_back };
   mm_alone = record { refusals = λ row. refl; passes = text_passes; answers = text_back };
   record_tags = record { refusals = λ row. refl; passes = λ x. refl; answers = λ x. refl };

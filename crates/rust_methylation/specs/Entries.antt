@@ -2,6 +2,7 @@
 use Rattle.std.specs.Prelude.{ℕ, ◌≡◌, Option, Some, None, Result, Ok, Err, List, length}
 use Rattle.refusals.specs.declared.Refusal.{Refusal}
 use Rattle.refusals.specs.Refusal.{number_of}
+use Rattle.refusals.specs.Outcome.{by_number}
 use Rattle.refusals.specs.Outcome.{answer, after}
 use Rattle.methylation.specs.declared.ConversionPattern.{ConversionPattern}
 use Rattle.methylation.specs.declared.MethylationMode.{MethylationMode}
@@ -29,9 +30,13 @@ mm_reply (Ok (Some mm_length)) = tags_reply 0 1 mm_length 0
 mm_reply (Ok None) = tags_reply 0 0 0 0
 mm_reply (Err refusal) = tags_reply (number_of refusal) 0 0 0
 
+-- A refusal told by its number is handed on, a row's number or not.
+abbrev pub duplex_tags_told : Result TextLengths ℕ → DuplexTagsReply
+duplex_tags_told (Ok lengths) = record { refused = 0; positions = lengths.seq; a_mm = lengths.a_mm; b_mm = lengths.b_mm; mm = lengths.mm; ml = lengths.ml }
+duplex_tags_told (Err number) = record { refused = number; positions = 0; a_mm = 0; b_mm = 0; mm = 0; ml = 0 }
+
 abbrev pub duplex_tags_reply : Result TextLengths Refusal → DuplexTagsReply
-duplex_tags_reply (Ok lengths) = record { refused = 0; positions = lengths.seq; a_mm = lengths.a_mm; b_mm = lengths.b_mm; mm = lengths.mm; ml = lengths.ml }
-duplex_tags_reply (Err refusal) = record { refused = number_of refusal; positions = 0; a_mm = 0; b_mm = 0; mm = 0; ml = 0 }
+duplex_tags_reply tags = duplex_tags_told (by_number tags)
 
 -- What `restore_unconverted_bases` answers and leaves of the bases.
 pub record RestoredAs (pattern : ConversionPattern) (marks before now : List ℕ) (told : Result ℕ Refusal) : Type 0 where

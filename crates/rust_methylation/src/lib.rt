@@ -11,7 +11,7 @@ ghost use Rattle.replies.specs.Replies.{not_counted, count_reply, RepliedAs};
 ghost use Rattle.mm_ml.specs.Tags.{annotated, MmTaggedAs};
 ghost use Rattle.duplex_texts.specs.Texts.{strand, text_arrays};
 ghost use Rattle.duplex_tags.specs.Tags.{count_arrays};
-ghost use Rattle.rust_methylation.specs.Entries.{tags_reply, mm_ml_reply, mm_reply, duplex_tags_reply, RestoredAs, StrandBasesAs, tag_arrays, duplex_arrays, TagsAs, DuplexTagsAs};
+ghost use Rattle.rust_methylation.specs.Entries.{tags_reply, mm_ml_reply, mm_reply, duplex_tags_told, duplex_tags_reply, RestoredAs, StrandBasesAs, tag_arrays, duplex_arrays, TagsAs, DuplexTagsAs};
 
 use duplex_tags::{KindOutputs, duplex_methylation_tags};
 use duplex_texts::{TextLengths, TextOutputs};
@@ -105,11 +105,11 @@ impl From<Refusal> for DuplexTagsReply {
     }
 }
 
-// The numbers are those that C sees.
-impl From<Result<TextLengths, Refusal>> for DuplexTagsReply {
-    ghost from_gives = { λ tags reply. reply ≡ duplex_tags_reply tags };
+// The numbers are those that C sees. Of a refusal told by its number, any number is handed on.
+impl From<Result<TextLengths, u8>> for DuplexTagsReply {
+    ghost from_gives = { λ tags reply. reply ≡ duplex_tags_told tags };
 
-    fn from(tags: Result<TextLengths, Refusal>) -> DuplexTagsReply {
+    fn from(tags: Result<TextLengths, u8>) -> DuplexTagsReply {
         match tags {
             Ok(lengths) => DuplexTagsReply {
                 refused: 0,
@@ -119,8 +119,23 @@ impl From<Result<TextLengths, Refusal>> for DuplexTagsReply {
                 mm: lengths.mm,
                 ml: lengths.ml,
             },
-            Err(refusal) => DuplexTagsReply::from(refusal),
+            Err(refused) => DuplexTagsReply {
+                refused,
+                positions: 0,
+                a_mm: 0,
+                b_mm: 0,
+                mm: 0,
+                ml: 0,
+            },
         }
+    }
+}
+
+impl From<Result<TextLengths, Refusal>> for DuplexTagsReply {
+    ghost from_gives = { λ tags reply. reply ≡ duplex_tags_reply tags };
+
+    fn from(tags: Result<TextLengths, Refusal>) -> DuplexTagsReply {
+        DuplexTagsReply::from(tags.map_err(Refusal::number))
     }
 }
 
@@ -163,13 +178,15 @@ pub extern "C" fn gedrashiw_restore_unconverted_bases(
     ensures { RepliedAs (wrong_pattern pattern) (not_counted 13) count_reply (RestoredAs (pattern_of pattern) marks.now)
         consensus_bases.old consensus_bases.new result }
 {
-    // No `?`: its function would have this whole contract once more. A closure was tried (rust_padded): of outputs that it takes along
-    // nothing is known where it is not called.
+    // No `?`: no plainer, a function between would have this contract once more, over a Result. A closure was tried in rust_padded.
     let pattern = match ConversionPattern::try_from(pattern) {
         Ok(pattern) => pattern,
         Err(refusal) => return Count::from(refusal),
     };
-    Count::from(restore_unconverted_bases(consensus_bases, pattern, marks))
+    // No counts are lent here, and none are looked at.
+    let evidence = EvidenceSlices::new(marks, &[], &[]);
+    let annotation = MethylationAnnotation { pattern, evidence };
+    Count::from(restore_unconverted_bases(consensus_bases, annotation))
 }
 
 // A strand's bases as its tag shows them: restored by its annotation; without one, as they are.
@@ -183,13 +200,15 @@ pub extern "C" fn gedrashiw_methylation_strand_bases(
     ensures { RepliedAs (wrong_annotation annotation) (not_counted 13) count_reply (StrandBasesAs (annotation_of annotation) bases.now marks.now)
         out.old out.new result }
 {
-    // No `?`: its function would have this whole contract once more. A closure was tried (rust_padded): of outputs that it takes along
-    // nothing is known where it is not called.
+    // No `?`: no plainer, a function between would have this contract once more, over a Result. A closure was tried in rust_padded.
     let annotation = match annotation_in(annotation) {
         Ok(annotation) => annotation,
         Err(refusal) => return Count::from(refusal),
     };
-    Count::from(methylation_strand_bases(bases, annotation, marks, out))
+    // No counts are lent here, and none are looked at.
+    let evidence = EvidenceSlices::new(marks, &[], &[]);
+    let annotation = MethylationAnnotation::of(annotation, evidence);
+    Count::from(methylation_strand_bases(bases, annotation, out))
 }
 
 // A strand's MM and ML.
@@ -209,16 +228,15 @@ pub extern "C" fn gedrashiw_build_mm_ml_tags(
         (tag_arrays mm.old ml.old) (tag_arrays mm.new ml.new)
         result }
 {
-    // No `?`: its function would have this whole contract once more. A closure was tried (rust_padded): of outputs that it takes along
-    // nothing is known where it is not called.
+    // No `?`: no plainer, a function between would have this contract once more, over a Result. A closure was tried in rust_padded.
     let (pattern, mode) = match pattern_and_mode(pattern, mode) {
         Ok(choices) => choices,
         Err(refusal) => return TagsReply::from(refusal),
     };
+    let evidence = EvidenceSlices::new(marks, unconverted, converted);
     let strand = AnnotatedBases {
         bases: consensus_bases,
-        pattern,
-        evidence: EvidenceSlices::new(marks, unconverted, converted),
+        annotation: MethylationAnnotation { pattern, evidence },
     };
     TagsReply::from(build_mm_ml_tags(strand, mode, mm, ml))
 }
@@ -239,16 +257,15 @@ pub extern "C" fn gedrashiw_build_mm_tag_no_ml(
         mm.old mm.new
         result }
 {
-    // No `?`: its function would have this whole contract once more. A closure was tried (rust_padded): of outputs that it takes along
-    // nothing is known where it is not called.
+    // No `?`: no plainer, a function between would have this contract once more, over a Result. A closure was tried in rust_padded.
     let (pattern, mode) = match pattern_and_mode(pattern, mode) {
         Ok(choices) => choices,
         Err(refusal) => return TagsReply::from(refusal),
     };
+    let evidence = EvidenceSlices::new(marks, unconverted, converted);
     let strand = AnnotatedBases {
         bases: consensus_bases,
-        pattern,
-        evidence: EvidenceSlices::new(marks, unconverted, converted),
+        annotation: MethylationAnnotation { pattern, evidence },
     };
     TagsReply::from(build_mm_tag_no_ml(strand, mode, mm))
 }
@@ -290,8 +307,7 @@ pub extern "C" fn gedrashiw_duplex_methylation_tags(
         (count_arrays a_unconverted_out.new a_converted_out.new b_unconverted_out.new b_converted_out.new unconverted_out.new converted_out.new))
         result }
 {
-    // No `?`: its function would have this whole contract once more. A closure was tried (rust_padded): of outputs that it takes along
-    // nothing is known where it is not called.
+    // No `?`: no plainer, a function between would have this contract once more, over a Result. A closure was tried in rust_padded.
     let (a_annotation, b_annotation, mode) = match annotations_and_mode(
         a_annotation,
         b_annotation,

@@ -66,21 +66,6 @@ returns-in_err-lengths-clause-tagged c =
     let p = err_from_is_err_and c.from_residual-in_err-lengths.result c.from_residual-in_err-lengths.ensures.1 in
     rw (p.1, p.2) (refused_texts _ _ _ _ _ _ (passed (goal.at.returns-in_err-lengths-clause-tagged c).In_ok-counts_refusal) (rw c.in_err-lengths.was at c.duplex_texts.ensures.texts))
 
-pub write_counts-requires-clause-of_a : goal.write_counts-requires-clause-of_a
-write_counts-requires-clause-of_a c =
-    let here = (goal.at.write_counts-requires-clause-of_a c).In_ok-counts_refusal in
-    countable _ _ _ (long here).0.unconverted (long here).0.few (a here).evidence (unconverted_seen c.args.a c.evidence_of-a_counts.ensures) (room here).0.a
-
-pub write_counts-requires-clause-of_b : goal.write_counts-requires-clause-of_b
-write_counts-requires-clause-of_b c =
-    let here = (goal.at.write_counts-requires-clause-of_b c).In_ok-counts_refusal in
-    countable _ _ _ (long here).1.unconverted (long here).1.few (b here).evidence (unconverted_seen c.args.b c.evidence_of-b_counts.ensures) (room here).0.b
-
-pub write_counts-requires-2-clause-of_a : goal.write_counts-requires-2-clause-of_a
-write_counts-requires-2-clause-of_a c =
-    let here = (goal.at.write_counts-requires-2-clause-of_a c).In_ok-counts_refusal in
-    countable _ _ _ (long here).0.converted (long here).0.few (a here).evidence (converted_seen c.args.a c.evidence_of-a_counts.ensures) (room here).1.a
-
 pub write_counts-requires-2-clause-of_b : goal.write_counts-requires-2-clause-of_b
 write_counts-requires-2-clause-of_b c =
     let here = (goal.at.write_counts-requires-2-clause-of_b c).In_ok-counts_refusal in
