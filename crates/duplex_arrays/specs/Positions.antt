@@ -1,5 +1,5 @@
 -- The arrays of a two-strand record, position by position, document 01: bases, qualities and errors.
-use Rattle.std.specs.Prelude.{ℕ, ◌<◌, Bool, false, cond, ◌&&◌, ◌||◌, ◌≡◌, List, [], ◌∷◌, length, get_or}
+use Rattle.std.specs.Prelude.{ℕ, Bool, false, cond, ◌&&◌, ◌||◌, ◌≡◌, List, [], ◌∷◌, length, get_or}
 use Rattle.lists.specs.Output.{put}
 use Rattle.lists.specs.Table.{tabulate}
 use Rattle.refusals.specs.Refusal.{too_short}
@@ -48,10 +48,6 @@ module _ {A : Type 0} where
   -- Nothing is written where some array is too short.
   unfoldable pub unless_short : Bool → List A → List A
   unless_short short xs = cond short [] xs
-
-  -- Whatever a closure answers at a position below n is what is told of that position.
-  abbrev pub Tells : ℕ → (ℕ → A → Type 0) → (ℕ → A) → Type 0
-  Tells n answers told = (i : ℕ) → i < n → (x : A) → answers i x → x ≡ told i
 
 -- What is too short for base and quality of n positions, and for their errors.
 abbrev pub positions_short : ℕ → CtInput → Arrays → Arrays → List ℕ → List ℕ → Bool

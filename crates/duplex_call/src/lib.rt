@@ -30,7 +30,7 @@ pub struct CountedBase {
 
 // These functions choose between values and never between ways through the code, so that the loops over positions run on several
 // positions at once.
-// The flag is the condition itself, which each caller has from a comparison; both values are there before it.
+// The flag is the condition itself, a comparison's or the caller's; both values are there before it.
 fn pick<T: Copy>(first: bool, a: T, b: T) -> T
     ensures { result ≡ cond first a b }
 {

@@ -2,7 +2,7 @@
 // methylation, vanilla_caller, duplex_molecule, duplex_call and duplex_arrays.
 #![tactic(auto)]
 
-ghost use Rattle.std.specs.Prelude.{◌≡◌, false, [], ◌∷◌, ◌≤◌, length};
+ghost use Rattle.std.specs.Prelude.{◌≡◌, Some, false, [], ◌∷◌, ◌≤◌, length};
 ghost use Rattle.lists.specs.Output.{put};
 ghost use Rattle.lists.specs.Table.{tabulate};
 ghost use Rattle.methylation.specs.Arrays.{HasPlaces};
@@ -37,7 +37,7 @@ fn evidence_short(
 // The marks of the first n positions. Here and below n stands beside whole outputs: that they stay as they were past it is promised too.
 #[tactic(auto, using(lists::proofs::Output::begin, lists::proofs::Table::length_tabulate, lists::proofs::Told::next_table))]
 fn fill_marks(
-    annotation: Option<ConversionPattern>,
+    pattern: ConversionPattern,
     ct: CtInput,
     a_bases: &[u8],
     b_bases: &[u8],
@@ -45,7 +45,7 @@ fn fill_marks(
     marks_out: &mut [u8],
 )
     requires { (n ≤ length a_bases.now) × (n ≤ length b_bases.now) × (n ≤ length marks_out.old) }
-    ensures { marks_out.new ≡ put (tabulate n (mark_of ct annotation a_bases.now b_bases.now)) marks_out.old }
+    ensures { marks_out.new ≡ put (tabulate n (mark_of ct (Some pattern) a_bases.now b_bases.now)) marks_out.old }
 {
     // By index: two arrays are read and one is written at the same place.
     for i in 0..n {
@@ -54,7 +54,7 @@ fn fill_marks(
             a: a_bases[i],
             b: b_bases[i],
         };
-        marks_out[i] = u8::from(site.keeps_evidence(annotation));
+        marks_out[i] = u8::from(site.keeps_evidence(Some(pattern)));
     }
 }
 
@@ -107,6 +107,6 @@ pub fn write_evidence(
     ) {
         return;
     }
-    fill_marks(Some(annotation.pattern), ct, a.bases, b.bases, n, out.marks);
+    fill_marks(annotation.pattern, ct, a.bases, b.bases, n, out.marks);
     fill_counts(annotation.evidence, n, out);
 }

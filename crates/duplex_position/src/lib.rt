@@ -8,8 +8,8 @@ ghost use Rattle.duplex_position.specs.Combination.{agreed, disagreed, masked, u
 use dna::NO_CALL_BASE;
 use phred::{MIN_PHRED, cap_quality};
 
-// The base that a strand shows, and its quality. Functions take A's and B's as two operands: a struct of both would only be taken
-// apart, since each is asked both ways round.
+// The base that a strand shows, and its quality. Functions take A's and B's as two operands: a struct of both would only be made
+// and taken apart, since each caller has them as two.
 #[derive(Clone, Copy)]
 pub struct StrandBase {
     pub base: u8,

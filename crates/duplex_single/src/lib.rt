@@ -27,7 +27,7 @@ fn single_refusal(strand: Lengths, out: RecordLengths) -> Result<(), Refusal>
 }
 
 // Writes evidence, clear where it is not informative. The count stands beside whole outputs: that they stay as they were past it is
-// promised too.
+// promised too. Not copies that `gate_to_informative` then goes over: that answers a refusal, which there cannot be here.
 #[tactic(auto, using(methylation::proofs::Filling::done_evidence))]
 fn write_gated(places: usize, evidence: EvidenceSlices<'_>, out: &mut EvidenceOutputs<'_>)
     requires given { HasPlaces places (evidence_in evidence) }
@@ -38,7 +38,7 @@ fn write_gated(places: usize, evidence: EvidenceSlices<'_>, out: &mut EvidenceOu
     let marks_out = &mut *out.marks;
     let unconverted_out = &mut *out.unconverted;
     let converted_out = &mut *out.converted;
-    // By index: all three arrays are read and written at the same place.
+    // By index: three arrays are read, and three others written, at the same place.
     for i in 0..places {
         let kept = evidence_if(
             evidence.marks[i] != 0,
@@ -88,13 +88,5 @@ pub fn plain_single_strand(
         (record_out out.new no_evidence no_evidence)
         result }
 {
-    gated_single_strand(
-        strand.plain(),
-        out,
-        &mut EvidenceOutputs {
-            marks: &mut [],
-            unconverted: &mut [],
-            converted: &mut [],
-        },
-    )
+    gated_single_strand(strand.plain(), out, &mut EvidenceOutputs::none())
 }

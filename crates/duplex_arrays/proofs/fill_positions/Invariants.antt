@@ -1,9 +1,8 @@
 -- What the loop keeps, whatever is told of the closure's answers.
 use Prim.Native.Nat.{ℕ}
-use Rattle.lists.specs.Table.{tabulate}
+use Rattle.lists.specs.Table.{tabulate, Tells}
 use Rattle.lists.proofs.Output.{Filling}
 use Rattle.duplex_position.specs.declared.Position.{Position}
-use Rattle.duplex_arrays.specs.Positions.{Tells}
 use Rattle.duplex_arrays.proofs.fill_positions.Given as goal
 
 abbrev pub invariant-loop-i : goal.invariant-loop-i
