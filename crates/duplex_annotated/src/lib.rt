@@ -1,5 +1,5 @@
-// Two strands that may be annotated, combined position by position, from duplex_caller.rs (combine_strands). Uses lists, refusals,
-// methylation, vanilla_caller, duplex_molecule, duplex_arrays, duplex_evidence, duplex_outputs and duplex_strands.
+// Two strands that may be annotated, combined position by position, from duplex_caller.rs (combine_strands). Uses refusals, methylation,
+// vanilla_caller, duplex_molecule, duplex_arrays, duplex_evidence, duplex_outputs and duplex_strands.
 #![tactic(auto)]
 
 ghost use Rattle.methylation.specs.Outputs.{evidence_out, SameEvidence};

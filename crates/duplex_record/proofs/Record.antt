@@ -3,6 +3,7 @@
 --     none                 nothing is written
 --     alone_ab, alone_ba   by `gated_single_strand`, to the first strand's outputs
 --     both                 by a call that combines two strands
+--     made_by              the answer, of that of the call that writes the record
 --     kind_told            the kind that the code asked for
 --     lent_single, lent_combined     what a call leaves, by the strands as they were lent
 -- Assumes nothing.
@@ -27,7 +28,7 @@ use Rattle.duplex_kind.specs.declared.DuplexConsensus.TheVariants.{Ab, Ba, Both}
 use Rattle.duplex_kind.proofs.Kind.{Passes, is_refused, is_none, is_ab, is_ba, is_both}
 use Rattle.vanilla_caller.specs.Strand.{annotation_in, arrays_in}
 use Rattle.vanilla_caller.specs.declared.VanillaConsensusRead.{VanillaConsensusRead}
-use Rattle.duplex_record.specs.Parts.{lent_as, made_of}
+use Rattle.duplex_record.specs.Parts.{lent_as}
 use Rattle.duplex_record.specs.Record.{nothing, record_arrays, outputs_short, duplex_refused, DuplexAs}
 use Rattle.duplex_record.proofs.Untouched.{Same, same, after_none, no_evidence}
 
@@ -76,10 +77,14 @@ both_12 :
     → combine_refused a.annotation a.arrays b.annotation b.arrays out ≡ only_12 (record_too_short (min (positions a) (positions b)) (record_lengths a.annotation b.annotation out))
 both_12 a b out p q = rows _ _ _ (neither_holds _ _ p.not_long q.not_long) (neither_holds _ _ p.not_uneven q.not_uneven)
 
--- An answer handed on.
-handed : (of : ℕ → DuplexConsensus) (row : Option Refusal) (n : ℕ) → made_of of (answer row n) ≡ answer row (Some (of n))
-handed of None n = refl
-handed of (Some row) n = refl
+-- The record of this kind where the call that writes it refused nothing, or its refusal.
+abbrev pub made_by : DuplexConsensus → Result ℕ Refusal → Result (Option DuplexConsensus) Refusal
+made_by kind (Ok n) = Ok (Some kind)
+made_by kind (Err refusal) = Err refusal
+
+handed : (kind : DuplexConsensus) (row : Option Refusal) (n : ℕ) → made_by kind (answer row n) ≡ answer row (Some kind)
+handed kind None n = refl
+handed kind (Some row) n = refl
 
 leaves_first : (s : Strand) (row : Option Refusal) {before now : RecordArrays} → LeavesRecord row (single_arrays s.annotation s.arrays) (first_strand before) (first_strand now) → Same before.b now.b → LeavesRecord row (single_arrays s.annotation s.arrays) before now
 leaves_first s row l o = record {
@@ -116,6 +121,10 @@ five false false true outside short = refl
 five false false false true short = refl
 five false false false false short = refl
 
+told_kind : (row : Option Refusal) (k : Option DuplexConsensus) {kind : DuplexConsensus} → answer row k ≡ Ok (Some kind) → Some kind ≡ k
+told_kind None k e = cc
+told_kind (Some row) k e = absurd cc
+
 module _ (a b : Strand) (listed : Bool) (count : ℕ) (leaving : Bool) (before : RecordArrays) where
   abbrev early : Option Refusal
   early = refused (strand_faults a b listed count leaving)
@@ -145,44 +154,49 @@ module _ (a b : Strand) (listed : Bool) (count : ℕ) (leaving : Bool) (before :
         outputs = leaves_equal refl (ap (record_arrays a b listed uncounted) (sym k)) (untouched row before);
       }
 
+  -- The kind that is told, where no row refuses.
+  kind_made : {kind : DuplexConsensus} → record_kind a b listed count leaving ≡ Ok (Some kind) → Some kind ≡ kind_of a b
+  kind_made e = told_kind early (kind_of a b) e
+
   module _ (now : RecordArrays) where
     abbrev Promised : Result (Option DuplexConsensus) Refusal → Type 0
     Promised r = DuplexAs a b listed count leaving uncounted before now r
 
-    -- Strand s alone, where the record is of kind `of (positions s)`.
+    -- Strand s alone, where the record is of this kind.
     alone :
-        (s : Strand) (of : ℕ → DuplexConsensus)
+        (s : Strand) (kind : DuplexConsensus)
         → {r : Result ℕ Refusal} {answered : Result (Option DuplexConsensus) Refusal}
-        → answered ≡ made_of of r
+        → answered ≡ made_by kind r
         → single_refused s.annotation s.arrays (first_strand before) ≡ row
-        → Some (of (positions s)) ≡ kind_of a b
+        → Some kind ≡ kind_of a b
         → single_arrays s.annotation s.arrays ≡ record_arrays a b listed uncounted (kind_of a b)
         → SingleAs s.annotation s.arrays (first_strand before) (first_strand now) r
         → Same before.b now.b
         → Promised answered
-    alone s of told e kind written single other =
+    alone s kind told e is written single other =
         let first = single_refused s.annotation s.arrays (first_strand before) in
         record {
-          answered = told ∙ ap (made_of of) single.answered ∙ handed of first (positions s) ∙ ap (answer first) kind ∙ ap (λ (r : Option Refusal). answer r (kind_of a b)) e;
+          answered = told ∙ ap (made_by kind) single.answered ∙ handed kind first (positions s) ∙ ap (answer first) is ∙ ap (λ (r : Option Refusal). answer r (kind_of a b)) e;
           outputs = leaves_equal e written (leaves_first s first single.outputs other);
         }
 
-    pub alone_ab : {m : ℕ} {r : Result ℕ Refusal} {answered : Result (Option DuplexConsensus) Refusal} → answered ≡ made_of Ab r → record_kind a b listed count leaving ≡ Ok (Some (Ab m)) → SingleAs a.annotation a.arrays (first_strand before) (first_strand now) r → Same before.b now.b → Promised answered
-    alone_ab told e single other =
-        let (z, k, p) = is_ab a b listed count leaving e in
-        alone a Ab told (single_12 a before p ∙ sym (left_12 z k)) (sym k) (ap (record_arrays a b listed uncounted) (sym k)) single other
+    module _ {kind : DuplexConsensus} {r : Result ℕ Refusal} {answered : Result (Option DuplexConsensus) Refusal} (told : answered ≡ made_by kind r) (e : record_kind a b listed count leaving ≡ Ok (Some kind)) {m : ℕ} where
+      pub alone_ab : kind ≡ Ab m → SingleAs a.annotation a.arrays (first_strand before) (first_strand now) r → Same before.b now.b → Promised answered
+      alone_ab is single other =
+          let (z, k, p) = is_ab a b listed count leaving (e ∙ ap (λ (k : DuplexConsensus). Ok (Some k)) is) in
+          alone a kind told (single_12 a before p ∙ sym (left_12 z k)) (kind_made e) (ap (record_arrays a b listed uncounted) (sym k)) single other
 
-    pub alone_ba : {m : ℕ} {r : Result ℕ Refusal} {answered : Result (Option DuplexConsensus) Refusal} → answered ≡ made_of Ba r → record_kind a b listed count leaving ≡ Ok (Some (Ba m)) → SingleAs b.annotation b.arrays (first_strand before) (first_strand now) r → Same before.b now.b → Promised answered
-    alone_ba told e single other =
-        let (z, k, p) = is_ba a b listed count leaving e in
-        alone b Ba told (single_12 b before p ∙ sym (left_12 z k)) (sym k) (ap (record_arrays a b listed uncounted) (sym k)) single other
+      pub alone_ba : kind ≡ Ba m → SingleAs b.annotation b.arrays (first_strand before) (first_strand now) r → Same before.b now.b → Promised answered
+      alone_ba is single other =
+          let (z, k, p) = is_ba a b listed count leaving (e ∙ ap (λ (k : DuplexConsensus). Ok (Some k)) is) in
+          alone b kind told (single_12 b before p ∙ sym (left_12 z k)) (kind_made e) (ap (record_arrays a b listed uncounted) (sym k)) single other
 
-    pub both : {m : ℕ} {r : Result ℕ Refusal} {answered : Result (Option DuplexConsensus) Refusal} → answered ≡ made_of Both r → record_kind a b listed count leaving ≡ Ok (Some (Both m)) → CombinedAs (ct_input a.annotation b.annotation) a.annotation a.arrays b.annotation b.arrays listed before now r → Promised answered
-    both told e combined =
-        let (z, k, p, q) = is_both a b listed count leaving e in
-        let first = combine_refused a.annotation a.arrays b.annotation b.arrays before in
-        let same : first ≡ row = both_12 a b before p q ∙ sym (left_12 z k) in
-        record {
-          answered = told ∙ ap (made_of Both) combined.answered ∙ handed Both first (min (positions a) (positions b)) ∙ ap (answer first) (sym k) ∙ ap (λ (r : Option Refusal). answer r (kind_of a b)) same;
-          outputs = leaves_equal same (ap (record_arrays a b listed uncounted) (sym k)) combined.outputs;
-        }
+      pub both : kind ≡ Both m → CombinedAs (ct_input a.annotation b.annotation) a.annotation a.arrays b.annotation b.arrays listed before now r → Promised answered
+      both is combined =
+          let (z, k, p, q) = is_both a b listed count leaving (e ∙ ap (λ (k : DuplexConsensus). Ok (Some k)) is) in
+          let first = combine_refused a.annotation a.arrays b.annotation b.arrays before in
+          let same : first ≡ row = both_12 a b before p q ∙ sym (left_12 z k) in
+          record {
+            answered = told ∙ ap (made_by kind) combined.answered ∙ handed kind first (min (positions a) (positions b)) ∙ ap (answer first) (kind_made e) ∙ ap (λ (r : Option Refusal). answer r (kind_of a b)) same;
+            outputs = leaves_equal same (ap (record_arrays a b listed uncounted) (sym k)) combined.outputs;
+          }

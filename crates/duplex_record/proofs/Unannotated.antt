@@ -1,63 +1,52 @@
--- Two strands of which neither is annotated: combined without the evidence's outputs, they give what they give with them. Assumes nothing.
-use mathlib.Core.Path.{◌≡◌, refl}
-use mathlib.Core.Bool.{Bool, false, ◌||◌, true≢false}
+-- Strands without annotation leave nothing in the evidence's outputs where nothing stood. Assumes nothing.
+use mathlib.Core.Path.{◌≡◌, refl, sym, ◌∙◌}
+use mathlib.Core.Bool.{Bool}
 use mathlib.Core.List.{[]}
 use Prim.Native.Nat.{ℕ}
-use Rattle.std.proofs.Common.{None, Some, Option, Result, is_some}
+use Rattle.std.proofs.Common.{Option, Some, None, Result}
 use Rattle.lists.specs.Part.{only_if}
 use Rattle.refusals.specs.declared.Refusal.{Refusal}
-use Rattle.methylation.specs.Annotation.{pattern_held}
-use Rattle.methylation.specs.Methylation.{is_annotated}
-use Rattle.methylation.specs.declared.ConversionPattern.{ConversionPattern}
-use Rattle.methylation.specs.declared.MethylationAnnotation.{MethylationAnnotation}
-use Rattle.vanilla_caller.specs.Strand.{Arrays}
-use Rattle.duplex_molecule.specs.Molecule.{ct_input}
-use Rattle.duplex_molecule.specs.declared.CtInput.TheVariants.{Neither}
-use Rattle.duplex_outputs.specs.Outputs.{RecordArrays, record_of}
-use Rattle.duplex_strands.specs.Combine.{kept_marks, kept_unconverted, kept_converted, combine_refused, CombinedAs}
-use Rattle.duplex_record.proofs.Untouched.{Same, no_evidence}
+use Rattle.methylation.specs.Arrays.{EvidenceArrays, evidence_arrays, LeavesEvidence}
+use Rattle.methylation.specs.Outputs.{no_evidence}
+use Rattle.vanilla_caller.specs.declared.VanillaConsensusRead.{VanillaConsensusRead}
+use Rattle.duplex_outputs.specs.Outputs.{RecordArrays}
+use Rattle.duplex_strands.specs.Combine.{kept_marks, kept_unconverted, kept_converted}
+use Rattle.duplex_kind.specs.Kind.{Strand, kind_of}
+use Rattle.duplex_kind.specs.declared.DuplexConsensus.{DuplexConsensus}
+use Rattle.duplex_kind.specs.declared.DuplexConsensus.TheVariants.{Ab, Ba, Both}
+use Rattle.duplex_record.specs.Parts.{plain_of}
+use Rattle.duplex_record.specs.Record.{record_arrays, DuplexAs}
+use Rattle.duplex_record.proofs.Untouched.{after_none}
 
--- The outputs that then are written.
-abbrev pub own : RecordArrays → RecordArrays
-own r = record_of r.bases r.quals r.errors [] [] [] [] [] []
+unannotated : (s : Option VanillaConsensusRead) → (plain_of s).annotation ≡ None
+unannotated None = refl
+unannotated (Some s) = refl
 
--- The evidence's outputs are as they were.
-pub record SameEvidence (before now : RecordArrays) : Type 0 where
-  pub a : Same before.a now.a
-  pub b : Same before.b now.b
-
-absent : (listed : Bool) (a b : Arrays) {before now : RecordArrays} {r : Result ℕ Refusal} → CombinedAs Neither None a None b listed (own before) (own now) r → SameEvidence before now → CombinedAs Neither None a None b listed before now r
+none_written : (a b : Strand) (listed : Bool) (f : ℕ → ℕ) (k : Option DuplexConsensus) → a.annotation ≡ None → b.annotation ≡ None → ((record_arrays a b listed f k).a ≡ no_evidence) × ((record_arrays a b listed f k).b ≡ no_evidence)
 unfolding kept_marks kept_unconverted kept_converted only_if
-absent listed a b {before} {now} c same = record {
-  answered = c.answered;
-  outputs = record {
-    bases = c.outputs.bases;
-    quals = c.outputs.quals;
-    errors = c.outputs.errors;
-    a = no_evidence (combine_refused None a None b before) same.a;
-    b = no_evidence (combine_refused None a None b before) same.b;
-  };
-}
+none_written a b listed f None e g = (refl, refl)
+none_written a b listed f (Some (Ab n)) e g = rw e (refl, refl)
+none_written a b listed f (Some (Ba n)) e g = rw g (refl, refl)
+none_written a b listed f (Some (Both n)) e g = rw (e, g) (refl, refl)
 
-none_annotated : (m n : Option ConversionPattern) → (is_annotated m || is_annotated n) ≡ false → (m ≡ None) × (n ≡ None)
-none_annotated None None e = (refl, refl)
-none_annotated None (Some q) e = absurd (true≢false e)
-none_annotated (Some p) n e = absurd (true≢false e)
+same_arrays : {e : EvidenceArrays} → e.marks ≡ [] → e.unconverted ≡ [] → e.converted ≡ [] → evidence_arrays e.marks e.unconverted e.converted ≡ no_evidence
+same_arrays m u c = rw (m, u, c) refl
 
--- Where neither strand has an annotation, neither has its pattern.
-pub none_held : (m n : Option MethylationAnnotation) → (is_some m || is_some n) ≡ false → (is_annotated (pattern_held m) || is_annotated (pattern_held n)) ≡ false
-none_held None None e = refl
-none_held None (Some q) e = absurd (true≢false e)
-none_held (Some p) n e = absurd (true≢false e)
+-- What nothing goes to, where nothing stood.
+still_none : (row : Option Refusal) {written before now : EvidenceArrays} → written ≡ no_evidence → before ≡ no_evidence → LeavesEvidence row written before now → now ≡ no_evidence
+still_none row {written} {before} {now} e f l =
+    let left = rw (e, f) at l in
+    let marks : now.marks ≡ [] = left.marks ∙ sym (after_none row []) in
+    let unconverted : now.unconverted ≡ [] = left.unconverted ∙ sym (after_none row []) in
+    let converted : now.converted ≡ [] = left.converted ∙ sym (after_none row []) in
+    same_arrays marks unconverted converted
 
--- Annotations ma and mb of strands a and b.
-pub unannotated :
-    (ma mb : Option ConversionPattern) (listed : Bool) (a b : Arrays) {before now : RecordArrays} {r : Result ℕ Refusal}
-    → (is_annotated ma || is_annotated mb) ≡ false
-    → CombinedAs Neither None a None b listed (own before) (own now) r
-    → SameEvidence before now
-    → CombinedAs (ct_input ma mb) ma a mb b listed before now r
-unfolding ct_input
-unannotated ma mb listed a b e c same =
-    let (here, other) = none_annotated ma mb e in
-    rw (here, other) (absent listed a b c same)
+pub none_left :
+    (a b : Option VanillaConsensusRead) {listed leaving : Bool} {count : ℕ} {f : ℕ → ℕ} {before now : RecordArrays} {r : Result (Option DuplexConsensus) Refusal}
+    → before.a ≡ no_evidence
+    → before.b ≡ no_evidence
+    → DuplexAs (plain_of a) (plain_of b) listed count leaving f before now r
+    → (now.a ≡ no_evidence) × (now.b ≡ no_evidence)
+none_left a b {listed} {leaving} {count} {f} e g made =
+    let (first, second) = none_written (plain_of a) (plain_of b) listed f (kind_of (plain_of a) (plain_of b)) (unannotated a) (unannotated b) in
+    (still_none _ first e made.outputs.a, still_none _ second g made.outputs.b)

@@ -1,6 +1,6 @@
 // The duplex record, from duplex_caller.rs (duplex_consensus): of two strands, one or none, without the source reads, whose
-// errors are counted later. Uses lists, refusals, methylation, vanilla_caller, duplex_molecule, duplex_call, duplex_outputs,
-// duplex_strands, duplex_annotated, duplex_single and duplex_kind.
+// errors are counted later. Uses lists, refusals, methylation, vanilla_caller, duplex_molecule, duplex_outputs, duplex_strands,
+// duplex_annotated, duplex_single and duplex_kind.
 #![tactic(auto)]
 
 ghost use Rattle.std.specs.Prelude.{◌≡◌, is_some};
@@ -16,7 +16,6 @@ pub use duplex_kind::{DuplexConsensus, GivenReads};
 use duplex_kind::{given_strand, record_kind};
 use duplex_outputs::RecordOutputs;
 use duplex_single::gated_single_strand;
-use duplex_strands::combine_strands;
 use methylation::EvidenceOutputs;
 use refusals::Refusal;
 use vanilla_caller::VanillaConsensusRead;
@@ -28,11 +27,11 @@ fn lent<'a>(s: Option<VanillaConsensusRead<'a>>) -> VanillaConsensusRead<'a>
     s.unwrap_or(VanillaConsensusRead::new(&[], &[], &[], &[]))
 }
 
-// A and B are two operands, which each caller has as two; their outputs come as three structs: one of these was tried, and who makes it
-// learns nothing of what its slices hold.
 // The record of two strands, of one or of none. One strand alone goes to the first strand's outputs. Where reads are listed, the
 // errors of a record of two strands are left 0, to be counted. Refuses by 7, 8, 9, 10 whatever the record, then by 12 for what is
 // written.
+// A and B are two operands, which each caller has as two; their outputs come as three structs: one of these was tried, and who makes it
+// learns nothing of what its slices hold.
 pub fn duplex_record(
     a: Option<VanillaConsensusRead>,
     b: Option<VanillaConsensusRead>,
@@ -52,22 +51,14 @@ pub fn duplex_record(
     };
     let a = lent(a);
     let b = lent(b);
-    match kind {
-        DuplexConsensus::Ab(_) => gated_single_strand(a, out, a_out).map(|n| Some(
-            DuplexConsensus::Ab(n),
-        )),
-        DuplexConsensus::Ba(_) => gated_single_strand(b, out, a_out).map(|n| Some(
-            DuplexConsensus::Ba(n),
-        )),
+    let written = match kind {
+        DuplexConsensus::Ab(_) => gated_single_strand(a, out, a_out),
+        DuplexConsensus::Ba(_) => gated_single_strand(b, out, a_out),
         DuplexConsensus::Both(_) => {
-            if a.methylation.is_some() | b.methylation.is_some() {
-                return combine_strands_annotated(a, b, list.is_some(), out, a_out, b_out).map(
-                    |n| Some(DuplexConsensus::Both(n)),
-                );
-            }
-            combine_strands(a, b, list.is_some(), out).map(|n| Some(DuplexConsensus::Both(n)))
+            combine_strands_annotated(a, b, list.is_some(), out, a_out, b_out)
         }
-    }
+    };
+    written.map(|_| Some(kind))
 }
 
 // A strand without its annotation.
@@ -96,15 +87,7 @@ pub fn plain_record(
         plain(b),
         list,
         out,
-        &mut EvidenceOutputs {
-            marks: &mut [],
-            unconverted: &mut [],
-            converted: &mut [],
-        },
-        &mut EvidenceOutputs {
-            marks: &mut [],
-            unconverted: &mut [],
-            converted: &mut [],
-        },
+        &mut EvidenceOutputs::none(),
+        &mut EvidenceOutputs::none(),
     )
 }

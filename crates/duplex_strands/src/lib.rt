@@ -38,7 +38,8 @@ pub fn combined_length(a: Lengths, b: Lengths, out: RecordLengths) -> Result<usi
 
 // Combines strands without their annotations, which are not looked at. Where reads are listed the errors are left 0. Refuses by 7,
 // 8, 12.
-// Of a list only whether there is one counts here.
+// Of a list only whether there is one counts here. The body is that of duplex_annotated's call without its evidence: that call is made of
+// what stands here, so this one cannot be made of it without leaving this crate, which promises it.
 pub fn combine_strands(
     a: VanillaConsensusRead,
     b: VanillaConsensusRead,
