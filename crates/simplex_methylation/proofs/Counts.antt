@@ -1,5 +1,6 @@
 -- Laws of what is written to a lent output, place by place, and of counts that one more read is added to.
---     Adding                     the invariant of a loop that adds one more where a position is met: start, few, further, all_added
+--     Kept                       what a loop that adds one more where a position is met leaves of the counts that it has not come to: kept, few, kept_next
+--     start, further, all_added  and what it has written
 --     fewer                      one more can be added to fewer counts too
 --     fewer_places               positions that are not met need no store
 --     one_read_more              one more read, of counts that are a table
@@ -14,14 +15,15 @@ use native.Mathlib.Omega.{arith}
 use borrow.Author.Tests.{ltb-true, ltb-false}
 use lib.Dec.{ltb}
 use mir.Val.{bool_byte}
-use lib.ListN.{length, take, drop, get_or, set, replicate, length-replicate}
+use lib.ListN.{length, take, drop, get_or, set, replicate, length-replicate, length-set}
+use Rattle.std.proofs.lemmas.List.{get_or-set_other}
 use lib.Seq.{ext_get_or, length-take-le}
 use Rattle.lists.specs.Output.{put}
 use Rattle.lists.specs.Table.{tabulate}
-use Rattle.lists.proofs.Output.{length_put, Filling, begin, same, next, done}
+use Rattle.lists.proofs.Output.{length_put, Filling, begin, next, done}
 use Rattle.lists.proofs.Table.{length_tabulate, get_d_tabulate}
 use Rattle.lists.proofs.Written.{table_front, table_behind, unwritten}
-use Rattle.simplex_methylation.specs.Simplex.{added, Below, Countable}
+use Rattle.simplex_methylation.specs.Simplex.{added, Countable}
 
 -- A place is below n, or not.
 pub by_place : (i n : ℕ) {P : Type 0} → (i < n → P) → (n ≤ i → P) → P
@@ -57,33 +59,43 @@ flag_small false = omega arith
 abbrev more : (ℕ → Bool) → (ℕ → ℕ) → ℕ → ℕ
 more met c i = cond (met i) (c i + 1) (c i)
 
--- The first i of n counts, each below 1,024, are added to.
-pub record Adding (n : ℕ) (met : ℕ → Bool) (before : List ℕ) (i : ℕ) (now : List ℕ) : Type 0 where
-  pub filling : Filling n (added n met before) before i now
-  pub below : Below 1024 n before
-  pub room : n ≤ length before
+-- The counts from the i-th on are as they were, when each of n was below 1,024.
+pub record Kept (n : ℕ) (before : List ℕ) (i : ℕ) (now : List ℕ) : Type 0 where
+  pub countable : Countable n before
   pub as_long : length now ≡ length before
+  pub rest : (j : ℕ) → i ≤ j → get_or now j 0 ≡ get_or before j 0
 
 -- Of fewer counts too.
 pub fewer : {m n : ℕ} {so_far : List ℕ} → m ≤ n → Countable n so_far → Countable m so_far
 fewer h c = record { room = omega (arith, c.room); below = λ i l. c.below i (omega arith) }
 
-pub start : {n : ℕ} {met : ℕ → Bool} {before : List ℕ} → Countable n before → Adding n met before 0 before
-unfolding added
-start {n} h = record { filling = begin (length_tabulate n _) h.room; below = h.below; room = h.room; as_long = refl }
+pub kept : {n : ℕ} {before : List ℕ} → Countable n before → Kept n before 0 before
+kept h = record { countable = h; as_long = refl; rest = λ j l. refl }
 
-module _ {n : ℕ} {met : ℕ → Bool} {before : List ℕ} {i : ℕ} {now : List ℕ} (a : Adding n met before i now) where
-  pub few : i < n → get_or now i 0 < 1024
-  few l = omega (arith, unwritten 0 a.filling, a.below i l)
+module _ {n : ℕ} {before : List ℕ} {i : ℕ} {now : List ℕ} where
+  pub few : Kept n before i now → i < n → get_or now i 0 < 1024
+  few k l = omega (arith, k.rest i (omega arith), k.countable.below i l)
 
-  pub further : i < n → {b : Bool} {v : ℕ} → b ≡ met i → v ≡ cond b (get_or now i 0 + 1) (get_or now i 0) → Adding n met before (i + 1) (set now i v)
+  pub kept_next : Kept n before i now → (v : ℕ) → Kept n before (i + 1) (set now i v)
+  kept_next k v = record {
+    countable = k.countable;
+    as_long = length-set now i v ∙ k.as_long;
+    rest = λ j l. get_or-set_other now i j v 0 (λ e. absurd (omega (arith, e))) ∙ k.rest j (omega arith);
+  }
+
+-- The first i of n counts are added to.
+module _ {n : ℕ} (met : ℕ → Bool) {before : List ℕ} where
+  pub start : n ≤ length before → Filling n (added n met before) before 0 before
   unfolding added
-  further l {v = v} e f =
-      let filled : Filling n (added n met before) before (i + 1) (set now i v) = next 0 _ a.filling l (rw (f, e, unwritten 0 a.filling) (sym (get_d_tabulate n _ i 0 l))) in
-      record { filling = filled; below = a.below; room = a.room; as_long = same filled }
+  start h = begin (length_tabulate n _) h
 
-  pub all_added : n ≤ i → now ≡ put (added n met before) before
-  all_added l = done a.filling l
+  module _ {i : ℕ} {now : List ℕ} (f : Filling n (added n met before) before i now) where
+    pub further : i < n → {b : Bool} {v : ℕ} → b ≡ met i → v ≡ cond b (get_or now i 0 + 1) (get_or now i 0) → Filling n (added n met before) before (i + 1) (set now i v)
+    unfolding added
+    further l e w = next 0 _ f l (rw (w, e, unwritten 0 f) (sym (get_d_tabulate n _ i 0 l)))
+
+    pub all_added : n ≤ i → now ≡ put (added n met before) before
+    all_added l = done f l
 
 pub fewer_places :
     {places n : ℕ} (met met' : ℕ → Bool) (xs : List ℕ)

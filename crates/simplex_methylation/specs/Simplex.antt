@@ -30,7 +30,7 @@ setting pattern bytes reference aligned everywhere = record { pattern = pattern;
 
 -- That of the values lent for it.
 abbrev pub setting_in : Common → Setting
-setting_in c = record { pattern = c.pattern; bytes = c.bytes.now; reference = c.reference.now; aligned = option_map (λ marks. marks.now) c.aligned }
+setting_in c = record { pattern = c.pattern; bytes = c.list.bytes.now; reference = c.reference.now; aligned = option_map (λ marks. marks.now) c.aligned }
 
 -- A base is a capital letter, or its lower case.
 unfoldable pub is_letter : ℕ → ℕ → Bool

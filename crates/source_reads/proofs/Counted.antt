@@ -36,25 +36,26 @@ use Rattle.duplex_molecule.specs.Molecule.{is_error, call_at}
 use Rattle.duplex_molecule.specs.declared.CtInput.{CtInput}
 use Rattle.duplex_molecule.specs.declared.CtInput.TheVariants.{Neither}
 use Rattle.duplex_call.specs.Annotated.{expected}
+use Rattle.source_reads.specs.Arrays.{CombinedArrays, ShownArrays, asked}
 use Rattle.source_reads.specs.Bases.{unmasked_at, bases_errors}
 use Rattle.source_reads.specs.Reads.{none, read_leaves, reaches, read_error, read_errors, one_more, add_error, added_errors, expected_at, counted_length, counted_errors, expected_bases, shown_at, shown_errors}
 use Rattle.source_reads.specs.declared.SourceRead.{SourceRead}
 
 -- ---- the positions that are counted
 -- Each has at least n places.
-pub record Within (n : ℕ) (bases_a quals_a bases_b quals_b out : List ℕ) : Type 0 where
-  pub a : n ≤ length bases_a
-  pub qa : n ≤ length quals_a
-  pub b : n ≤ length bases_b
-  pub qb : n ≤ length quals_b
-  pub own : n ≤ length out
+pub record Within (n : ℕ) (s : CombinedArrays) (errors : ℕ) : Type 0 where
+  pub a : n ≤ length s.a.bases
+  pub qa : n ≤ length s.a.quals
+  pub b : n ≤ length s.b.bases
+  pub qb : n ≤ length s.b.quals
+  pub own : n ≤ errors
 
-module _ (positions : ℕ) (bases_a quals_a bases_b quals_b errors : List ℕ) where
+module _ (s : CombinedArrays) (errors : ℕ) where
   abbrev lengths : List ℕ
-  lengths = positions ∷ length bases_a ∷ length quals_a ∷ length bases_b ∷ length quals_b ∷ length errors ∷ 1024 ∷ []
+  lengths = s.positions ∷ length s.a.bases ∷ length s.a.quals ∷ length s.b.bases ∷ length s.b.quals ∷ errors ∷ 1024 ∷ []
 
   -- There is room for them.
-  pub all_within : {n : ℕ} → n ≡ counted_length positions bases_a quals_a bases_b quals_b errors → Within n bases_a quals_a bases_b quals_b errors
+  pub all_within : {n : ℕ} → n ≡ counted_length s errors → Within n s errors
   all_within {n} e = record {
     a = at 1 (lit< tt);
     qa = at 2 (lit< tt);
@@ -67,7 +68,7 @@ module _ (positions : ℕ) (bases_a quals_a bases_b quals_b errors : List ℕ) w
       at i l = rw e (smallest_le lengths i l)
 
   -- They are no more than a strand may have.
-  pub few_positions : counted_length positions bases_a quals_a bases_b quals_b errors ≤ 1024
+  pub few_positions : counted_length s errors ≤ 1024
   few_positions = smallest_le lengths 6 (lit< tt)
 
 -- ---- one read
@@ -126,31 +127,31 @@ module _ (bytes : List ℕ) (read : SourceRead) (expected : ℕ → Bool → ℕ
 pub either : {r b : Bool} (x y : List ℕ) {t : Bool} → r ≡ b → r ≡ t → cond t x y ≡ cond b x y
 either x y e f = ap (λ (t : Bool). cond t x y) (sym f ∙ e)
 
-module _ (positions : ℕ) (first last errors : List ℕ) where
+module _ (s : ShownArrays) (errors : List ℕ) where
   abbrev pub shown_length : ℕ
-  shown_length = smallest (positions ∷ length first ∷ length last ∷ length errors ∷ [])
+  shown_length = smallest (s.positions ∷ length s.first ∷ length s.last ∷ length errors ∷ [])
 
   pub room_for : shown_length ≤ length errors
-  room_for = smallest_le (positions ∷ length first ∷ length last ∷ length errors ∷ []) 3 (lit< tt)
+  room_for = smallest_le (s.positions ∷ length s.first ∷ length s.last ∷ length errors ∷ []) 3 (lit< tt)
 
   -- One read: `own` are the bases of its part, and `shown` is what it should show. The lengths are gone through in turn.
   pub one_shown : (read : SourceRead) (bytes : List ℕ) {own shown us : List ℕ} {x y n m : ℕ}
       → own ≡ part read.offset read.length bytes
-      → x ≡ min positions (length first)
-      → y ≡ min x (length last)
+      → x ≡ min s.positions (length s.first)
+      → y ≡ min x (length s.last)
       → n ≡ min y (length errors)
       → m ≡ min n (length own)
-      → shown ≡ cond (is_set read.flags last_segment) last first
+      → shown ≡ cond (is_set read.flags last_segment) s.last s.first
       → us ≡ bases_errors m own (λ i. get_or shown i 0) errors
-      → us ≡ shown_errors (read ∷ []) bytes positions first last errors
+      → us ≡ shown_errors (read ∷ []) bytes s errors
   unfolding shown_errors
-  one_shown read bytes {own} {shown} {us} {x} {y} {n} {m} p e₁ e₂ e₃ f s h =
-      let itself : positions ≤ positions = omega arith in
+  one_shown read bytes {own} {shown} {us} {x} {y} {n} {m} p e₁ e₂ e₃ f c h =
+      let itself : s.positions ≤ s.positions = omega arith in
       let all : n ≡ shown_length = rw (min-eq_left itself, e₃, e₂, e₁) in
       h
-      ∙ ap (λ (l : List ℕ). bases_errors m own (λ i. get_or l i 0) errors) s
-      ∙ ap (λ (l : List ℕ). bases_errors m l (λ i. shown_at first last i (is_set read.flags last_segment)) errors) p
-      ∙ one_read bytes read (shown_at first last) shown_length errors (f ∙ rw (all, p)) room_for
+      ∙ ap (λ (l : List ℕ). bases_errors m own (λ i. get_or l i 0) errors) c
+      ∙ ap (λ (l : List ℕ). bases_errors m l (λ i. shown_at s i (is_set read.flags last_segment)) errors) p
+      ∙ one_read bytes read (shown_at s) shown_length errors (f ∙ rw (all, p)) room_for
 
 -- ---- some reads, one after the other
 module _ (n : ℕ) (bytes : List ℕ) (expected : ℕ → Bool → ℕ) where
@@ -184,31 +185,31 @@ module _ (n : ℕ) (bytes : List ℕ) (expected : ℕ → Bool → ℕ) where
   added_none errors room = put_more 0 n (λ i. get_or errors i 0) errors 0 (omega arith) room (λ i l h. refl)
 
 -- ---- a loop over the reads
-module _ (reads : List SourceRead) (bytes : List ℕ) (positions : ℕ) (first last errors : List ℕ) where
+module _ (reads : List SourceRead) (bytes : List ℕ) (s : ShownArrays) (errors : List ℕ) where
   abbrev n : ℕ
-  n = shown_length positions first last errors
+  n = shown_length s errors
 
   abbrev counted : List SourceRead → List ℕ
-  counted xs = shown_errors xs bytes positions first last errors
+  counted xs = shown_errors xs bytes s errors
 
   room : n ≤ length errors
-  room = room_for positions first last errors
+  room = room_for s errors
 
   pub same : length (counted reads) ≡ length errors
   unfolding shown_errors
-  same = added_same n bytes (shown_at first last) reads errors room
+  same = added_same n bytes (shown_at s) reads errors room
 
   pub none_yet : errors ≡ counted (take 0 reads)
   unfolding shown_errors
-  none_yet = added_none n bytes (shown_at first last) errors room
+  none_yet = added_none n bytes (shown_at s) errors room
 
-  pub next : {i : ℕ} {zs us : List ℕ} → i < length reads → zs ≡ counted (take i reads) → us ≡ shown_errors (get_or reads i none ∷ []) bytes positions first last zs → us ≡ counted (take (i + 1) reads)
+  pub next : {i : ℕ} {zs us : List ℕ} → i < length reads → zs ≡ counted (take i reads) → us ≡ shown_errors (get_or reads i none ∷ []) bytes s zs → us ≡ counted (take (i + 1) reads)
   unfolding shown_errors
   next {i} {zs} {us} h e f =
-      let expected = shown_at first last in
+      let expected = shown_at s in
       let read = get_or reads i none in
       let as_long : length zs ≡ length errors = ap length e ∙ added_same n bytes expected (take i reads) errors room in
-      let as_many : shown_length positions first last zs ≡ n = rw as_long in
+      let as_many : shown_length s zs ≡ n = rw as_long in
       f
       ∙ ap (λ (m : ℕ). added_errors m bytes expected (read ∷ []) zs) as_many
       ∙ ap (λ (l : List ℕ). added_errors n bytes expected (read ∷ []) l) e
@@ -216,13 +217,13 @@ module _ (reads : List SourceRead) (bytes : List ℕ) (positions : ℕ) (first l
       ∙ rw (add-one, take-suc reads i none h)
 
   -- Of one read more, before them.
-  pub after_one : (read : SourceRead) → counted (read ∷ reads) ≡ shown_errors reads bytes positions first last (counted (read ∷ []))
+  pub after_one : (read : SourceRead) → counted (read ∷ reads) ≡ shown_errors reads bytes s (counted (read ∷ []))
   unfolding shown_errors
   after_one read =
-      let expected = shown_at first last in
+      let expected = shown_at s in
       let one = added_errors n bytes expected (read ∷ []) errors in
       let as_long : length one ≡ length errors = added_same n bytes expected (read ∷ []) errors room in
-      let as_many : shown_length positions first last one ≡ n = rw as_long in
+      let as_many : shown_length s one ≡ n = rw as_long in
       sym (added_then n bytes expected (read ∷ []) reads errors room)
       ∙ ap (λ (m : ℕ). added_errors m bytes expected reads one) (sym as_many)
 
@@ -240,67 +241,63 @@ same_fold bytes i {e} {f} h (read ∷ reads) start =
 sized : (m : ℕ) (f : ℕ → ℕ) (out : List ℕ) {k : ℕ} → length out ≡ k → m ≤ k → length (put (tabulate m f) out) ≡ k
 sized m f out e h = length_put (tabulate m f) out (omega (arith, length_tabulate m f)) ∙ e
 
-pub expected_length : (ct : CtInput) (last : Bool) (positions : ℕ) (bases_a quals_a bases_b quals_b : List ℕ) → length (expected_bases ct last positions bases_a quals_a bases_b quals_b) ≡ 1024
+pub expected_length : (s : CombinedArrays) (last : Bool) → length (expected_bases s last) ≡ 1024
 unfolding expected_bases
-expected_length ct last positions bases_a quals_a bases_b quals_b =
-    sized _ (λ i. expected_at ct bases_a quals_a bases_b quals_b i last) (replicate 1024 0) (length-replicate {A = ℕ} 1024 0)
-    (smallest_le (positions ∷ length bases_a ∷ length quals_a ∷ length bases_b ∷ length quals_b ∷ 1024 ∷ 1024 ∷ []) 6 (lit< tt))
+expected_length s last = sized _ (λ i. expected_at s.ct s.a s.b i last) (replicate 1024 0) (length-replicate {A = ℕ} 1024 0) (few_positions s 1024)
 
 -- Written in these ways it is what is expected.
-module _ (ct : CtInput) (last : Bool) (positions : ℕ) (bases_a quals_a bases_b quals_b : List ℕ) {n : ℕ} (e : n ≡ smallest (positions ∷ length bases_a ∷ length quals_a ∷ length bases_b ∷ length quals_b ∷ 1024 ∷ 1024 ∷ [])) where
-  pub expected_called : {us : List ℕ} → us ≡ put (tabulate n (λ i. expected_at ct bases_a quals_a bases_b quals_b i last)) (replicate 1024 0) → us ≡ expected_bases ct last positions bases_a quals_a bases_b quals_b
+module _ (s : CombinedArrays) (last : Bool) {n : ℕ} (e : n ≡ counted_length s 1024) where
+  pub expected_called : {us : List ℕ} → us ≡ put (tabulate n (λ i. expected_at s.ct s.a s.b i last)) (replicate 1024 0) → us ≡ expected_bases s last
   unfolding expected_bases
-  expected_called h = h ∙ ap (λ (m : ℕ). put (tabulate m (λ i. expected_at ct bases_a quals_a bases_b quals_b i last)) (replicate 1024 0)) e
+  expected_called h = h ∙ ap (λ (m : ℕ). put (tabulate m (λ i. expected_at s.ct s.a s.b i last)) (replicate 1024 0)) e
 
   -- Where neither strand is the C-to-T one, there is no call.
-  pub expected_uncalled : ct ≡ Neither → {us : List ℕ} → us ≡ put (tabulate n (unmasked_at bases_a quals_a bases_b quals_b)) (replicate 1024 0) → us ≡ expected_bases ct last positions bases_a quals_a bases_b quals_b
+  pub expected_uncalled : s.ct ≡ Neither → {us : List ℕ} → us ≡ put (tabulate n (unmasked_at s.a s.b)) (replicate 1024 0) → us ≡ expected_bases s last
   unfolding expected call_at
-  expected_uncalled c h = expected_called (h ∙ ap (λ (t : CtInput). put (tabulate n (λ i. expected_at t bases_a quals_a bases_b quals_b i last)) (replicate 1024 0)) (sym c))
+  expected_uncalled c h = expected_called (h ∙ ap (λ (t : CtInput). put (tabulate n (λ i. expected_at t s.a s.b i last)) (replicate 1024 0)) (sym c))
 
-module _ (reads : List SourceRead) (bytes : List ℕ) (ct : CtInput) (positions : ℕ) (bases_a quals_a bases_b quals_b errors : List ℕ) where
-  abbrev asked : ℕ
-  asked = counted_length positions bases_a quals_a bases_b quals_b errors
-
+module _ (reads : List SourceRead) (bytes : List ℕ) (s : CombinedArrays) (errors : List ℕ) where
   -- Where no position is counted, nothing changes.
-  pub none_counted : asked ≡ 0 → errors ≡ counted_errors reads bytes ct positions bases_a quals_a bases_b quals_b errors
+  pub none_counted : counted_length s (length errors) ≡ 0 → errors ≡ counted_errors reads bytes s errors
   unfolding counted_errors added_errors put tabulate
-  none_counted e = sym (ap (λ (m : ℕ). added_errors m bytes (expected_at ct bases_a quals_a bases_b quals_b) reads errors) e)
+  none_counted e = sym (ap (λ (m : ℕ). added_errors m bytes (expected_at s.ct s.a s.b) reads errors) e)
 
-  module _ {n : ℕ} (e : n ≡ asked) where
+  module _ {n : ℕ} (e : n ≡ counted_length s (length errors)) where
     few : n ≤ 1024
-    few = rw e (few_positions positions bases_a quals_a bases_b quals_b errors)
+    few = rw e (few_positions s (length errors))
 
     -- As many are expected as are counted, and at those is what a read should show.
-    as_many : smallest (n ∷ length bases_a ∷ length quals_a ∷ length bases_b ∷ length quals_b ∷ 1024 ∷ 1024 ∷ []) ≡ n
+    as_many : counted_length (asked n s) 1024 ≡ n
     as_many =
-        let w = all_within positions bases_a quals_a bases_b quals_b errors e in
+        let w = all_within s (length errors) e in
         let itself : n ≤ n = omega arith in
         rw (min-eq_left itself, min-eq_left w.a, min-eq_left w.qa, min-eq_left w.b, min-eq_left w.qb, min-eq_left few, min-eq_left few)
 
-    at : (i : ℕ) → i < n → (last : Bool) → get_or (expected_bases ct last n bases_a quals_a bases_b quals_b) i 0 ≡ expected_at ct bases_a quals_a bases_b quals_b i last
+    at : (i : ℕ) → i < n → (last : Bool) → get_or (expected_bases (asked n s) last) i 0 ≡ expected_at s.ct s.a s.b i last
     unfolding expected_bases
     at i l last =
-        let shown : ℕ → ℕ = λ j. expected_at ct bases_a quals_a bases_b quals_b j last in
-        ap (λ (m : ℕ). get_or (put (tabulate m shown) (replicate 1024 0)) i 0) as_many ∙ table_front 0 n shown (replicate 1024 0) i l
+        let should : ℕ → ℕ = λ j. expected_at s.ct s.a s.b j last in
+        ap (λ (m : ℕ). get_or (put (tabulate m should) (replicate 1024 0)) i 0) as_many ∙ table_front 0 n should (replicate 1024 0) i l
 
-    pub as_expected : {first last : List ℕ}
-        → first ≡ expected_bases ct false n bases_a quals_a bases_b quals_b
-        → last ≡ expected_bases ct true n bases_a quals_a bases_b quals_b
-        → shown_errors reads bytes n first last errors ≡ counted_errors reads bytes ct positions bases_a quals_a bases_b quals_b errors
-    unfolding shown_errors counted_errors added_errors
-    as_expected {first} {last} f l =
-        let w = all_within positions bases_a quals_a bases_b quals_b errors e in
-        let itself : n ≤ n = omega arith in
-        let long_first : length first ≡ 1024 = ap length f ∙ expected_length ct false n bases_a quals_a bases_b quals_b in
-        let long_last : length last ≡ 1024 = ap length l ∙ expected_length ct true n bases_a quals_a bases_b quals_b in
-        let all_shown : shown_length n first last errors ≡ n = rw (long_first, long_last, min-eq_left itself, min-eq_left few, min-eq_left few, min-eq_left w.own) in
-        ap (λ (m : ℕ). added_errors m bytes (shown_at first last) reads errors) all_shown
-        ∙ put_equal errors (tabulate_equal n (λ i. foldl (add_error bytes (shown_at first last i) i) (get_or errors i 0) reads) (λ i. foldl (add_error bytes (expected_at ct bases_a quals_a bases_b quals_b i) i) (get_or errors i 0) reads) (λ i h. same_fold bytes i (agree i h) reads (get_or errors i 0)))
-        ∙ ap (λ (m : ℕ). added_errors m bytes (expected_at ct bases_a quals_a bases_b quals_b) reads errors) e
-      where
-        agree : (i : ℕ) → i < n → (b : Bool) → shown_at first last i b ≡ expected_at ct bases_a quals_a bases_b quals_b i b
-        agree i h true = ap (λ (xs : List ℕ). get_or xs i 0) l ∙ at i h true
-        agree i h false = ap (λ (xs : List ℕ). get_or xs i 0) f ∙ at i h false
+    module _ (first last : List ℕ) where
+      abbrev these : ShownArrays
+      these = record { positions = n; first = first; last = last }
+
+      pub as_expected : first ≡ expected_bases (asked n s) false → last ≡ expected_bases (asked n s) true → shown_errors reads bytes these errors ≡ counted_errors reads bytes s errors
+      unfolding shown_errors counted_errors added_errors
+      as_expected f l =
+          let w = all_within s (length errors) e in
+          let itself : n ≤ n = omega arith in
+          let long_first : length first ≡ 1024 = ap length f ∙ expected_length (asked n s) false in
+          let long_last : length last ≡ 1024 = ap length l ∙ expected_length (asked n s) true in
+          let all_shown : shown_length these errors ≡ n = rw (long_first, long_last, min-eq_left itself, min-eq_left few, min-eq_left few, min-eq_left w.own) in
+          ap (λ (m : ℕ). added_errors m bytes (shown_at these) reads errors) all_shown
+          ∙ put_equal errors (tabulate_equal n (λ i. foldl (add_error bytes (shown_at these i) i) (get_or errors i 0) reads) (λ i. foldl (add_error bytes (expected_at s.ct s.a s.b i) i) (get_or errors i 0) reads) (λ i h. same_fold bytes i (agree i h) reads (get_or errors i 0)))
+          ∙ ap (λ (m : ℕ). added_errors m bytes (expected_at s.ct s.a s.b) reads errors) e
+        where
+          agree : (i : ℕ) → i < n → (b : Bool) → shown_at these i b ≡ expected_at s.ct s.a s.b i b
+          agree i h true = ap (λ (xs : List ℕ). get_or xs i 0) l ∙ at i h true
+          agree i h false = ap (λ (xs : List ℕ). get_or xs i 0) f ∙ at i h false
 
 -- ---- how many reads are errors
 one_of : (b : Bool) (start : ℕ) → start + 1 ≤ 65535 → one_more b start ≡ cond b (start + 1) start

@@ -5,6 +5,7 @@ use Rattle.lists.specs.Table.{tabulate}
 use Rattle.duplex_molecule.specs.Molecule.{is_error}
 use Rattle.duplex_position.specs.Combination.{uncalled}
 use Rattle.duplex_position.specs.declared.StrandBase.{StrandBase}
+use Rattle.source_reads.specs.Arrays.{BaseArrays}
 use Rattle.source_reads.specs.Reads.{one_more}
 
 -- A base and its quality.
@@ -12,8 +13,8 @@ abbrev pub base_at : ℕ → ℕ → StrandBase
 base_at base qual = record { base = base; qual = qual }
 
 -- The unmasked base at position i where there is no call.
-abbrev pub unmasked_at : List ℕ → List ℕ → List ℕ → List ℕ → ℕ → ℕ
-unmasked_at bases_a quals_a bases_b quals_b i = (uncalled (get_or bases_a i 0) (get_or quals_a i 0) (get_or bases_b i 0) (get_or quals_b i 0)).raw
+abbrev pub unmasked_at : BaseArrays → BaseArrays → ℕ → ℕ
+unmasked_at a b i = (uncalled (get_or a.bases i 0) (get_or a.quals i 0) (get_or b.bases i 0) (get_or b.quals i 0)).raw
 
 -- The errors of the first n bases, each against what should be shown there, added to the numbers.
 unfoldable pub bases_errors : ℕ → List ℕ → (ℕ → ℕ) → List ℕ → List ℕ

@@ -11,6 +11,7 @@ use Rattle.flags.specs.Flags.{is_set, last_segment}
 use Rattle.duplex_molecule.specs.Molecule.{is_error}
 use Rattle.duplex_molecule.specs.declared.CtInput.{CtInput}
 use Rattle.duplex_call.specs.Annotated.{expected}
+use Rattle.source_reads.specs.Arrays.{BaseArrays, CombinedArrays, ShownArrays}
 use Rattle.source_reads.specs.declared.SourceRead.{SourceRead}
 
 -- The read that stands for one that is not there.
@@ -51,30 +52,26 @@ unfoldable pub added_errors : ℕ → List ℕ → (ℕ → Bool → ℕ) → Li
 added_errors n bytes expected reads errors = put (tabulate n (λ i. foldl (add_error bytes (expected i) i) (get_or errors i 0) reads)) errors
 
 -- What a read should show at position i, by the bases and qualities of strands A and B.
-abbrev pub expected_at : CtInput → List ℕ → List ℕ → List ℕ → List ℕ → ℕ → Bool → ℕ
-expected_at ct bases_a quals_a bases_b quals_b i = expected ct (get_or bases_a i 0) (get_or quals_a i 0) (get_or bases_b i 0) (get_or quals_b i 0)
+abbrev pub expected_at : CtInput → BaseArrays → BaseArrays → ℕ → Bool → ℕ
+expected_at ct a b i = expected ct (get_or a.bases i 0) (get_or a.quals i 0) (get_or b.bases i 0) (get_or b.quals i 0)
 
--- As many positions as are asked for, no more than each array has, and no more than row 7 lets a strand have.
-abbrev pub counted_length : ℕ → List ℕ → List ℕ → List ℕ → List ℕ → List ℕ → ℕ
-counted_length positions bases_a quals_a bases_b quals_b errors =
-    smallest (positions ∷ length bases_a ∷ length quals_a ∷ length bases_b ∷ length quals_b ∷ length errors ∷ 1024 ∷ [])
+-- As many positions as are asked for, no more than each array has, and no more than row 7 lets a strand have. The errors have so many.
+abbrev pub counted_length : CombinedArrays → ℕ → ℕ
+counted_length s errors =
+    smallest (s.positions ∷ length s.a.bases ∷ length s.a.quals ∷ length s.b.bases ∷ length s.b.quals ∷ errors ∷ 1024 ∷ [])
 
 -- What a count of some reads leaves where these errors were.
-unfoldable pub counted_errors : List SourceRead → List ℕ → CtInput → ℕ → List ℕ → List ℕ → List ℕ → List ℕ → List ℕ → List ℕ
-counted_errors reads bytes ct positions bases_a quals_a bases_b quals_b errors =
-    added_errors (counted_length positions bases_a quals_a bases_b quals_b errors) bytes (expected_at ct bases_a quals_a bases_b quals_b) reads errors
+unfoldable pub counted_errors : List SourceRead → List ℕ → CombinedArrays → List ℕ → List ℕ
+counted_errors reads bytes s errors = added_errors (counted_length s (length errors)) bytes (expected_at s.ct s.a s.b) reads errors
 
 -- What the reads with flag 0x80, or those without it, should show at the first positions, and 0 behind them.
-unfoldable pub expected_bases : CtInput → Bool → ℕ → List ℕ → List ℕ → List ℕ → List ℕ → List ℕ
-expected_bases ct last positions bases_a quals_a bases_b quals_b =
-    put
-    (tabulate (smallest (positions ∷ length bases_a ∷ length quals_a ∷ length bases_b ∷ length quals_b ∷ 1024 ∷ 1024 ∷ [])) (λ i. expected_at ct bases_a quals_a bases_b quals_b i last))
-    (replicate 1024 0)
+unfoldable pub expected_bases : CombinedArrays → Bool → List ℕ
+expected_bases s last = put (tabulate (counted_length s 1024) (λ i. expected_at s.ct s.a s.b i last)) (replicate 1024 0)
 
 -- What a read should show at position i, by what those without flag 0x80 should show and those with it.
-abbrev pub shown_at : List ℕ → List ℕ → ℕ → Bool → ℕ
-shown_at first last i flagged = get_or (cond flagged last first) i 0
+abbrev pub shown_at : ShownArrays → ℕ → Bool → ℕ
+shown_at s i flagged = get_or (cond flagged s.last s.first) i 0
 
 -- What a count of some reads leaves, by these.
-unfoldable pub shown_errors : List SourceRead → List ℕ → ℕ → List ℕ → List ℕ → List ℕ → List ℕ
-shown_errors reads bytes positions first last errors = added_errors (smallest (positions ∷ length first ∷ length last ∷ length errors ∷ [])) bytes (shown_at first last) reads errors
+unfoldable pub shown_errors : List SourceRead → List ℕ → ShownArrays → List ℕ → List ℕ
+shown_errors reads bytes s errors = added_errors (smallest (s.positions ∷ length s.first ∷ length s.last ∷ length errors ∷ [])) bytes (shown_at s) reads errors

@@ -12,5 +12,5 @@ invariant-loop-read l =
     let letters = pattern_bases l.common.pattern in
     SameEvidence l.fn.out l.out
     × (l.out.marks.now ≡ put (marks_of letters.reference l.common.reference.now l.common.consensus_len) l.fn.out.marks.now)
-    × Running (setting_in l.common) letters.unconverted l.reads l.common.consensus_len l.fn.out.unconverted.now l.read-index l.out.unconverted.now
-    × Running (setting_in l.common) letters.converted l.reads l.common.consensus_len l.fn.out.converted.now l.read-index l.out.converted.now
+    × Running (setting_in l.common) letters.unconverted l.common.list.reads.now l.common.consensus_len l.fn.out.unconverted.now l.read-index l.out.unconverted.now
+    × Running (setting_in l.common) letters.converted l.common.list.reads.now l.common.consensus_len l.fn.out.converted.now l.read-index l.out.converted.now
