@@ -39,7 +39,7 @@ use Rattle.duplex_record.specs.Record.{record_arrays, outputs_short, duplex_faul
 use Rattle.source_reads.specs.Reads.{any_leaves, read_errors, expected_at, counted_errors}
 use Rattle.source_reads.specs.declared.SourceRead.{SourceRead}
 use Rattle.source_reads.proofs.Counted.{few_errors}
-use Rattle.duplex_consensus.specs.Consensus.{list_errors, counted_positions, ConsensusAs}
+use Rattle.duplex_consensus.specs.Consensus.{bases_of, combined_of, list_errors, counted_positions, ConsensusAs}
 use Rattle.duplex_consensus.proofs.Counting.{none_asked, Reach, from_zeros}
 
 -- Where five rows do not refuse, the first four do not.
@@ -99,7 +99,7 @@ module _ (a b : Strand) (reads : List SourceRead) (bytes : List ℕ) (before : R
     early = first_passed _ _ _ _ _ z
 
     -- Both strands are there and even, and the record is as long as the shorter.
-    reach : Reach reads bytes ct a.arrays.bases a.arrays.quals b.arrays.bases b.arrays.quals n before.errors
+    reach : Reach reads bytes (combined_of a b n) before.errors
     reach =
         let (_, kind, passes_a, passes_b) = is_both a b true (length reads) outside (sym (taken a b true (length reads) outside early) ∙ ap Ok k) in
         let shorter : n ≡ min (positions a) (positions b) = cc in
@@ -113,21 +113,21 @@ module _ (a b : Strand) (reads : List SourceRead) (bytes : List ℕ) (before : R
         }
 
     -- The number of errors is held by itself.
-    held : (i : ℕ) → read_errors bytes (expected_at ct a.arrays.bases a.arrays.quals b.arrays.bases b.arrays.quals i) i reads ≡ counted i
+    held : (i : ℕ) → read_errors bytes (expected_at ct (bases_of a.arrays) (bases_of b.arrays) i) i reads ≡ counted i
     unfolding list_errors
-    held i = sym (min-eq_left (omega (arith, few, few_errors bytes (expected_at ct a.arrays.bases a.arrays.quals b.arrays.bases b.arrays.quals i) i reads)))
+    held i = sym (min-eq_left (omega (arith, few, few_errors bytes (expected_at ct (bases_of a.arrays) (bases_of b.arrays) i) i reads)))
 
-  module _ {made us : List ℕ} {p : ℕ} (e : us ≡ counted_errors reads bytes ct p a.arrays.bases a.arrays.quals b.arrays.bases b.arrays.quals made) where
+  module _ {made us : List ℕ} {p : ℕ} (e : us ≡ counted_errors reads bytes (combined_of a b p) made) where
     -- Nothing is counted.
     as_made : p ≡ 0 → us ≡ made
-    as_made q = e ∙ ap (λ (m : ℕ). counted_errors reads bytes ct m a.arrays.bases a.arrays.quals b.arrays.bases b.arrays.quals made) q ∙ none_asked reads bytes ct a.arrays.bases a.arrays.quals b.arrays.bases b.arrays.quals made
+    as_made q = e ∙ ap (λ (m : ℕ). counted_errors reads bytes (combined_of a b m) made) q ∙ none_asked reads bytes ct (bases_of a.arrays) (bases_of b.arrays) made
 
     -- All n positions are.
     as_counted : {n : ℕ} → refused true outside ≡ None → kind_of a b ≡ Some (Both n) → made ≡ put (tabulate n uncounted) before.errors → p ≡ n → us ≡ put (tabulate n counted) before.errors
     as_counted {n} z k f q =
         e
-        ∙ ap (λ (m : ℕ). counted_errors reads bytes ct m a.arrays.bases a.arrays.quals b.arrays.bases b.arrays.quals made) q
-        ∙ from_zeros reads bytes ct a.arrays.bases a.arrays.quals b.arrays.bases b.arrays.quals n before.errors (reach z k) (omega (arith, few z k)) f
+        ∙ ap (λ (m : ℕ). counted_errors reads bytes (combined_of a b m) made) q
+        ∙ from_zeros reads bytes (combined_of a b n) before.errors (reach z k) (omega (arith, few z k)) f
         ∙ put_equal before.errors (tabulate_equal n _ counted (λ i l. held z k i))
 
     -- The errors, by the number of the refusal and the record's kind.
@@ -173,7 +173,7 @@ pub counted_as :
     → leaving ≡ (listed && any_leaves (length bytes) reads)
     → DuplexAs a b listed (length reads) leaving uncounted before made r
     → p ≡ counted_positions listed r
-    → us ≡ counted_errors reads bytes (ct_input a.annotation b.annotation) p a.arrays.bases a.arrays.quals b.arrays.bases b.arrays.quals made.errors
+    → us ≡ counted_errors reads bytes (combined_of a b p) made.errors
     → ConsensusAs a b listed reads bytes before (with_errors us made) r
 counted_as a b listed reads bytes before made {r} l d q e =
     let f = counted a b reads bytes before in

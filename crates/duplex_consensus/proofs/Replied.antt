@@ -1,11 +1,13 @@
 -- What the entry promises, by the strands as numbers tell of them and the record that is made.
 --     refused_in, read_in   what a strand's numbers say: 13, or the strand
 --     given_by              what is given of a list that there is by a flag
---     numbered              the record of the strands and the list as the code has them is that of the numbers
+--     is_listed             whether there is one is the flag
+--     list_by               the record made without a list is that of one that is not there
+--     numbered              the record of the strands as the code has them is that of the numbers
 -- Assumes nothing.
 use mathlib.Core.Path.{◌≡◌, refl, subst}
 use mathlib.Core.Bool.{Bool, true, false, cond, ◌&&◌}
-use mathlib.Core.List.{[]}
+use mathlib.Core.List.{List, []}
 use Prim.Native.Nat.{ℕ}
 use Rattle.std.proofs.Common.{Option, None, Result, Ok, Err, is_some, length}
 use Rattle.std.specs.Bool.{then_some}
@@ -25,7 +27,9 @@ use Rattle.duplex_record.specs.Record.{DuplexAs}
 use Rattle.duplex_record.proofs.Absent.{not_looked_at}
 use Rattle.source_reads.specs.Reads.{any_leaves}
 use Rattle.source_reads.specs.declared.SourceReads.{SourceReads}
-use Rattle.duplex_consensus.specs.Consensus.{given_list, given_in}
+use Rattle.duplex_molecule.specs.Molecule.{ct_input}
+use Rattle.source_reads.specs.declared.SourceRead.{SourceRead}
+use Rattle.duplex_consensus.specs.Consensus.{list_errors, given_list, given_in, ConsensusAs}
 
 abbrev by : Bool → Bool → Option ConversionPattern → Arrays → Result Strand Refusal
 by present wrong annotation x = cond present (cond wrong (Err Broken) (Ok (strand true annotation x))) (Ok (given_of None))
@@ -49,46 +53,65 @@ read_in p m x h = right_by (yes p) (wrong_annotation m) (annotation_of m) x h
 abbrev none : Arrays
 none = arrays [] [] [] [] [] [] []
 
-module _ {count : ℕ} {leaving : Bool} {before now : RecordArrays} {r : Result (Option DuplexConsensus) Refusal} where
-  first_by : (p v : Bool) (m : Option ConversionPattern) (x : Arrays) {s b : Strand} {listed : Bool} → by p v m x ≡ Ok s → DuplexAs s b listed count leaving uncounted before now r → DuplexAs (strand p m x) b listed count leaving uncounted before now r
-  first_by true true m x h d = absurd cc
-  first_by true false m x {s} {b} {listed} h d =
-      let same : s ≡ strand true m x = cc in
-      subst (λ (s : Strand). DuplexAs s b listed count leaving uncounted before now r) same d
-  first_by false v m x {s} {b} {listed} h d =
-      let same : s ≡ given_of None = cc in
-      (not_looked_at uncounted uncounted listed count leaving before now r).first None m none x b (subst (λ (s : Strand). DuplexAs s b listed count leaving uncounted before now r) same d)
-
-  second_by : (p v : Bool) (m : Option ConversionPattern) (x : Arrays) {s a : Strand} {listed : Bool} → by p v m x ≡ Ok s → DuplexAs a s listed count leaving uncounted before now r → DuplexAs a (strand p m x) listed count leaving uncounted before now r
-  second_by true true m x h d = absurd cc
-  second_by true false m x {s} {a} {listed} h d =
-      let same : s ≡ strand true m x = cc in
-      subst (λ (s : Strand). DuplexAs a s listed count leaving uncounted before now r) same d
-  second_by false v m x {s} {a} {listed} h d =
-      let same : s ≡ given_of None = cc in
-      (not_looked_at uncounted uncounted listed count leaving before now r).second a None m none x (subst (λ (s : Strand). DuplexAs a s listed count leaving uncounted before now r) same d)
-
-list_by :
-    (a b : Strand) (listed : Bool) (count : ℕ) (leaving : Bool) {before now : RecordArrays} {r : Result (Option DuplexConsensus) Refusal}
-    → (let list = given_list listed count leaving in DuplexAs a b (is_some list) (count_in list) (leaving_in list) uncounted before now r)
-    → DuplexAs a b listed count (listed && leaving) uncounted before now r
-list_by a b true count leaving d = d
-list_by a b false count leaving {before} {now} {r} d = (not_looked_at uncounted uncounted false 0 false before now r).list a b count false d
-
 -- What is given of a list that there is by a flag.
 pub given_by : (listed : Bool) (reads : SourceReads) → given_in (then_some listed reads) ≡ given_list listed (length reads.reads.now) (any_leaves (length reads.bytes.now) reads.reads.now)
 given_by true reads = refl
 given_by false reads = refl
 
-pub numbered :
-    (p m q n : ℕ) (x y : Arrays) (listed : Bool) (count : ℕ) (leaving : Bool) {s t : Strand} {list : Option GivenReads} {before now : RecordArrays} {r : Result (Option DuplexConsensus) Refusal}
-    → strand_by p m (arrays_seen (annotation_of m) x) ≡ Ok s
-    → strand_by q n (arrays_seen (annotation_of n) y) ≡ Ok t
+pub is_listed : (listed : Bool) (count : ℕ) (leaving : Bool) → is_some (given_list listed count leaving) ≡ listed
+is_listed true count leaving = refl
+is_listed false count leaving = refl
+
+-- A list that is not there is not looked at.
+pub list_by :
+    (a b : Strand) (listed : Bool) (count : ℕ) (leaving : Bool) {list : Option GivenReads} {before now : RecordArrays} {r : Result (Option DuplexConsensus) Refusal}
     → list ≡ given_list listed count leaving
-    → DuplexAs s t (is_some list) (count_in list) (leaving_in list) uncounted before now r
-    → DuplexAs (strand (yes p) (annotation_of m) x) (strand (yes q) (annotation_of n) y) listed count (listed && leaving) uncounted before now r
-numbered p m q n x y listed count leaving {s} {t} {list} {before} {now} {r} e f g d =
-    let by_list = list_by s t listed count leaving (subst (λ (l : Option GivenReads). DuplexAs s t (is_some l) (count_in l) (leaving_in l) uncounted before now r) g d) in
-    let by_first = first_by (yes p) (wrong_annotation m) (annotation_of m) (arrays_seen (annotation_of m) x) e by_list in
-    (not_looked_at uncounted uncounted listed count (listed && leaving) before now r).evidence (strand (yes p) (annotation_of m) x) (strand (yes q) (annotation_of n) y)
-    (second_by (yes q) (wrong_annotation n) (annotation_of n) (arrays_seen (annotation_of n) y) f by_first)
+    → DuplexAs a b (is_some list) (count_in list) (leaving_in list) uncounted before now r
+    → DuplexAs a b listed count (listed && leaving) uncounted before now r
+list_by a b listed count leaving {list} {before} {now} {r} e d = go listed (subst (λ (l : Option GivenReads). DuplexAs a b (is_some l) (count_in l) (leaving_in l) uncounted before now r) e d)
+  where
+    go : (listed : Bool) → (let list = given_list listed count leaving in DuplexAs a b (is_some list) (count_in list) (leaving_in list) uncounted before now r) → DuplexAs a b listed count (listed && leaving) uncounted before now r
+    go true d = d
+    go false d = (not_looked_at uncounted uncounted false 0 false before now r).list a b count false d
+
+module _ (listed : Bool) (reads : List SourceRead) (bytes : List ℕ) (before now : RecordArrays) (r : Result (Option DuplexConsensus) Refusal) where
+  abbrev As : Strand → Strand → Type 0
+  As a b = ConsensusAs a b listed reads bytes before now r
+
+  abbrev errors : Strand → Strand → ℕ → ℕ
+  errors a b = list_errors reads bytes (ct_input a.annotation b.annotation) a.arrays b.arrays
+
+  abbrev leaving : Bool
+  leaving = any_leaves (length bytes) reads
+
+  first_by : (p v : Bool) (m : Option ConversionPattern) (x : Arrays) {s b : Strand} → by p v m x ≡ Ok s → As s b → As (strand p m x) b
+  first_by true true m x h d = absurd cc
+  first_by true false m x {s} {b} h d =
+      let same : s ≡ strand true m x = cc in
+      subst (λ (s : Strand). As s b) same d
+  first_by false v m x {s} {b} h d =
+      let same : s ≡ given_of None = cc in
+      (not_looked_at (errors (given_of None) b) (errors (strand false m x) b) listed (length reads) leaving before now r).first None m none x b (subst (λ (s : Strand). As s b) same d)
+
+  second_by : (p v : Bool) (m : Option ConversionPattern) (x : Arrays) {s a : Strand} → by p v m x ≡ Ok s → As a s → As a (strand p m x)
+  second_by true true m x h d = absurd cc
+  second_by true false m x {s} {a} h d =
+      let same : s ≡ strand true m x = cc in
+      subst (λ (s : Strand). As a s) same d
+  second_by false v m x {s} {a} h d =
+      let same : s ≡ given_of None = cc in
+      (not_looked_at (errors a (given_of None)) (errors a (strand false m x)) listed (length reads) leaving before now r).second a None m none x (subst (λ (s : Strand). As a s) same d)
+
+  pub numbered :
+      (p m q n : ℕ) (x y : Arrays) {s t : Strand}
+      → strand_by p m (arrays_seen (annotation_of m) x) ≡ Ok s
+      → strand_by q n (arrays_seen (annotation_of n) y) ≡ Ok t
+      → As s t
+      → As (strand (yes p) (annotation_of m) x) (strand (yes q) (annotation_of n) y)
+  unfolding list_errors
+  numbered p m q n x y {s} {t} e f d =
+      let a = strand (yes p) (annotation_of m) x in
+      let b = strand (yes q) (annotation_of n) y in
+      let by_first = first_by (yes p) (wrong_annotation m) (annotation_of m) (arrays_seen (annotation_of m) x) e d in
+      (not_looked_at (errors a b) (errors a b) listed (length reads) leaving before now r).evidence a b
+      (second_by (yes q) (wrong_annotation n) (annotation_of n) (arrays_seen (annotation_of n) y) f by_first)

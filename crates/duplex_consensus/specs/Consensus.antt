@@ -16,13 +16,22 @@ use Rattle.duplex_reply.specs.Reply.{record_for}
 pub use Rattle.duplex_reply.specs.Strand.{wrong_strand}
 use Rattle.duplex_reply.specs.declared.DuplexRecord.{DuplexRecord}
 use Rattle.duplex_record.specs.Record.{DuplexAs}
+use Rattle.source_reads.specs.Arrays.{BaseArrays, CombinedArrays}
 use Rattle.source_reads.specs.Reads.{any_leaves, read_errors, expected_at}
 use Rattle.source_reads.specs.declared.SourceRead.{SourceRead}
 use Rattle.source_reads.specs.declared.SourceReads.{SourceReads}
 
+-- A strand's bases and qualities.
+abbrev pub bases_of : Arrays → BaseArrays
+bases_of x = record { bases = x.bases; quals = x.quals }
+
+-- Two strands, of which errors are counted at so many positions.
+abbrev pub combined_of : Strand → Strand → ℕ → CombinedArrays
+combined_of a b positions = record { ct = ct_input a.annotation b.annotation; positions = positions; a = bases_of a.arrays; b = bases_of b.arrays }
+
 -- The errors of a list of reads at position i, held to 0..32,767.
 unfoldable pub list_errors : List SourceRead → List ℕ → CtInput → Arrays → Arrays → ℕ → ℕ
-list_errors reads bytes ct a b i = short (read_errors bytes (expected_at ct a.bases a.quals b.bases b.quals i) i reads)
+list_errors reads bytes ct a b i = short (read_errors bytes (expected_at ct (bases_of a) (bases_of b) i) i reads)
 
 -- How many positions of a record have their errors counted: all of a record of two strands with a list.
 abbrev pub counted_positions : {E : Type 0} → Bool → Result (Option DuplexConsensus) E → ℕ

@@ -1,6 +1,7 @@
 // The duplex record with its source reads, from duplex_caller.rs (duplex_consensus), as an entry point over numbers: the record, and
-// where there is a list the errors that are counted of its reads. Uses refusals, methylation, replies, vanilla_caller, duplex_molecule,
-// duplex_kind, duplex_reply, duplex_record and source_reads.
+// where there is a list the errors that are counted of its reads. Uses refusals, methylation, vanilla_caller, duplex_molecule,
+// duplex_outputs, duplex_kind, duplex_reply, duplex_record and source_reads, and definitions of
+// caller and replies.
 #![tactic(auto)]
 
 ghost use Rattle.std.specs.Prelude.{◌≡◌, ◌||◌};
@@ -8,8 +9,9 @@ ghost use Rattle.methylation.specs.Choices.{annotation_of};
 ghost use Rattle.replies.specs.Choices.{yes};
 ghost use Rattle.vanilla_caller.specs.Strand.{arrays};
 ghost use Rattle.duplex_outputs.specs.Outputs.{record_of};
-ghost use Rattle.duplex_kind.specs.Kind.{strand};
-ghost use Rattle.duplex_consensus.specs.Consensus.{wrong_strand, counted_positions, given_in, EntryAs};
+ghost use Rattle.duplex_kind.specs.Kind.{strand, given_of};
+ghost use Rattle.source_reads.specs.Arrays.{bases_in, combined_in};
+ghost use Rattle.duplex_consensus.specs.Consensus.{wrong_strand, bases_of, combined_of, counted_positions, given_in, EntryAs};
 
 use duplex_kind::{DuplexConsensus, GivenReads};
 use duplex_molecule::ct_input;
@@ -18,20 +20,57 @@ use duplex_record::duplex_record;
 use duplex_reply::{DuplexRecord, strand_in};
 use methylation::{EvidenceOutputs, EvidenceSlices};
 use refusals::Refusal;
-use replies::annotation_of;
 use source_reads::{
     CombinedBases, SourceRead, SourceReads, StrandBases, count_read_errors, list_leaves,
 };
 use vanilla_caller::VanillaConsensusRead;
 
-// How many positions of a record have their errors counted: all of a record of two strands with a list. A refusal of any type will do.
-// Of a list only whether there is one counts here.
+// How many positions of a record have their errors counted: all of a record of two strands with a list. A refusal of any type that
+// is Copy will do. Of a list only whether there is one counts here.
 pub fn counted_positions<E: Copy>(made: Result<Option<DuplexConsensus>, E>, listed: bool) -> usize
     ensures { result ≡ counted_positions listed made }
 {
     match made {
         Ok(Some(DuplexConsensus::Both(n))) if listed => n,
         _ => 0,
+    }
+}
+
+// Not one with line_strands' `count_bytes`, of other fields of another type: all that both share is what `map_or` is.
+fn bases_in<'a>(s: Option<VanillaConsensusRead<'a>>) -> StrandBases<'a>
+    ensures { bases_in result ≡ bases_of (given_of s.entry).arrays }
+{
+    let none = StrandBases {
+        bases: &[],
+        quals: &[],
+    };
+    s.map_or(
+        none,
+        |s| StrandBases {
+            bases: s.bases,
+            quals: s.quals,
+        },
+    )
+}
+
+// Two strands, of which errors are counted at so many positions. Only bases, qualities and annotations are looked at, so that their other
+// arrays may be any. A and B are the two operands, as the caller has them.
+pub fn combined_bases<'a>(
+    a: Option<VanillaConsensusRead<'a>>,
+    b: Option<VanillaConsensusRead<'a>>,
+    positions: usize,
+) -> CombinedBases<'a>
+    ensures { combined_in result ≡ combined_of (given_of a.entry) (given_of b.entry) positions }
+{
+    let ct = ct_input(
+        a.and_then(|s| s.annotation()),
+        b.and_then(|s| s.annotation()),
+    );
+    CombinedBases {
+        ct,
+        positions,
+        a: bases_in(a),
+        b: bases_in(b),
     }
 }
 
@@ -91,7 +130,8 @@ pub extern "C" fn gedrashiw_duplex_consensus_typed(
 {
     let a = VanillaConsensusRead::new(a_bases, a_quals, a_depths, a_errors);
     let a_evidence = EvidenceSlices::new(a_marks, a_unconverted, a_converted);
-    // No `?`, here and for B: a function that answers a Result would have this whole contract once more.
+    // No `?`, here and for B: no plainer, a function between would have this contract once more, over a Result. A closure was tried in
+    // rust_padded.
     let a = match strand_in(a_present, a_annotation, a, a_evidence) {
         Ok(a) => a,
         Err(refusal) => return DuplexRecord::from(refusal),
@@ -120,18 +160,7 @@ pub extern "C" fn gedrashiw_duplex_consensus_typed(
         converted: b_converted_out,
     };
     let made = duplex_record(a, b, list, &mut out, &mut a_out, &mut b_out);
-    let s = CombinedBases {
-        ct: ct_input(annotation_of(a_annotation), annotation_of(b_annotation)),
-        positions: counted_positions(made, listed != 0),
-        a: StrandBases {
-            bases: a_bases,
-            quals: a_quals,
-        },
-        b: StrandBases {
-            bases: b_bases,
-            quals: b_quals,
-        },
-    };
+    let s = combined_bases(a, b, counted_positions(made, list.is_some()));
     count_read_errors(reads, s, out.errors);
     DuplexRecord::from(made)
 }

@@ -20,8 +20,7 @@ use Rattle.duplex_kind.specs.Kind.{Strand, kind_of, count_in, leaving_in}
 use Rattle.duplex_kind.specs.declared.DuplexConsensus.{DuplexConsensus}
 use Rattle.duplex_kind.specs.declared.GivenReads.{GivenReads}
 use Rattle.duplex_record.specs.Record.{record_arrays, duplex_refused, DuplexAs}
-use Rattle.duplex_molecule.specs.Molecule.{ct_input}
-use Rattle.duplex_consensus.specs.Consensus.{counted_positions}
+use Rattle.duplex_consensus.specs.Consensus.{combined_of, counted_positions}
 use Rattle.duplex_consensus.proofs.Made.{with_errors, counted_as}
 use Rattle.source_reads.specs.Reads.{any_leaves, counted_errors}
 use Rattle.molecule_reads.specs.Run.{reads_of}
@@ -116,7 +115,7 @@ pub made_as :
     → Listed there run list
     → (before now : RecordArrays) {made : Option DuplexConsensus} {us : List ℕ}
     → DuplexAs a b (is_some list) (count_in list) (leaving_in list) uncounted before now (Ok made)
-    → us ≡ counted_errors (reads_of run) run (ct_input a.annotation b.annotation) (counted_positions {E = Refusal} there (Ok made)) a.arrays.bases a.arrays.quals b.arrays.bases b.arrays.quals now.errors
+    → us ≡ counted_errors (reads_of run) run (combined_of a b (counted_positions {E = Refusal} there (Ok made))) now.errors
     → DuplexAs a b there (length (reads_of run)) false (run_errors a b run) before (with_errors us now) (Ok made)
 made_as a b {there} {run} l before now {made} {us} d u =
     subst (λ (x : Bool). DuplexAs a b there (length (reads_of run)) x (run_errors a b run) before (with_errors us now) (Ok made)) (none_leaves run)

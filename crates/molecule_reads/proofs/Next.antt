@@ -1,18 +1,13 @@
 -- The read that begins at a place of a run, by what the bytes from there on begin with.
---     clipped     a place past the end is taken as the end
 --     none_next, cut_next, next_is     what `next_read` is
 --     parted      a field's header, its value and the bytes after it are all from its place on
 -- Assumes nothing.
-use mathlib.Core.Path.{◌≡◌, refl, sym, ap, ◌∙◌}
-use mathlib.Core.Bool.{Bool, true, false, cond}
+use mathlib.Core.Path.{◌≡◌, sym, ap, ◌∙◌}
+use mathlib.Core.Bool.{cond}
 use mathlib.Core.List.{List}
-use Prim.Native.Nat.{ℕ, ◌+◌, ◌-◌, ◌≤◌, min}
-use native.Mathlib.Nat.{min-eq_left, min-eq_right}
+use Prim.Native.Nat.{ℕ, ◌+◌, ◌-◌}
 use native.Mathlib.Omega.{arith}
-use borrow.Author.Tests.{ltb-true, ltb-false}
-use lib.Dec.{ltb}
-use lib.ListN.{length, take, drop, length-drop, drop_of_length-le}
-use lib.Seq.{take-length}
+use lib.ListN.{length, drop, length-drop}
 use Rattle.std.proofs.Common.{Some, None, Ok, Err}
 use Rattle.fields.specs.Encoding.{Field, Front, nothing, cut, whole, front, located, next_field}
 use Rattle.fields.proofs.Walk.{stands}
@@ -21,21 +16,6 @@ use Rattle.molecule_fields.specs.Widths.{is_read}
 use Rattle.molecule_reads.specs.Run.{read_of, read_at, next_read}
 
 module _ (run : List ℕ) (at : ℕ) where
-  pub clipped : {start : ℕ} → start ≡ min at (length run) → take (length run - start) (drop start run) ≡ drop at run
-  clipped {start} e =
-      ap (λ (n : ℕ). take n (drop start run)) (sym (length-drop start run))
-      ∙ take-length (drop start run)
-      ∙ go (ltb at (length run)) refl
-    where
-      go : (b : Bool) → ltb at (length run) ≡ b → drop start run ≡ drop at run
-      go true t =
-          let within : at ≤ length run = omega (arith, ltb-true at (length run) t) in
-          ap (λ (n : ℕ). drop n run) (e ∙ min-eq_left within)
-      go false t =
-          let past : length run ≤ at = ltb-false at (length run) t in
-          let end : length run ≤ start = omega (arith, e ∙ min-eq_right past) in
-          drop_of_length-le run end ∙ sym (drop_of_length-le run past)
-
   pub none_next : front (drop at run) ≡ nothing → next_read run at ≡ Ok None
   unfolding next_read next_field
   none_next e = rw e

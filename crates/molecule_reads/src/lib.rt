@@ -3,27 +3,33 @@
 // Uses lists, refusals, fields, molecule_fields and source_reads.
 #![tactic(auto)]
 
-ghost use Rattle.std.specs.Prelude.{◌≡◌};
+ghost use Rattle.std.specs.Prelude.{◌≡◌, drop};
+ghost use Rattle.source_reads.specs.Arrays.{combined_in, shown_in};
 ghost use Rattle.source_reads.specs.Reads.{shown_errors, counted_errors};
 ghost use Rattle.molecule_reads.specs.Run.{reads_of, next_read, counted};
 
 use fields::next_field;
 use molecule_fields::{is_read, read_flags};
-use refusals::Refusal;
+use refusals::{Refusal, refuse};
 use source_reads::{CombinedBases, ExpectedBases, ShownBases, SourceRead, add_read_errors};
+
+// The bytes from a place of a run on; past its end none.
+fn bytes_from(run: &[u8], at: usize) -> &[u8]
+    ensures { result.now ≡ drop at run.now }
+{
+    run.get(at..).unwrap_or(&[])
+}
 
 // The read that begins at a place of a run, or none where no bytes are left. The next one begins at its offset plus its length
 // (`NextReads`). Refuses by 13 where what is left does not begin with a whole field that is a read.
-#[tactic(auto, using(crate::proofs::Next::clipped, crate::proofs::Next::none_next, crate::proofs::Next::cut_next, crate::proofs::Next::next_is, crate::proofs::Next::parted))]
+#[tactic(auto, using(crate::proofs::Next::none_next, crate::proofs::Next::cut_next, crate::proofs::Next::next_is, crate::proofs::Next::parted))]
 pub fn next_read(run: &[u8], at: usize) -> Result<Option<SourceRead>, Refusal>
     ensures { result ≡ next_read run.now at }
 {
-    let Some(f) = next_field(&run[at.min(run.len())..])? else {
+    let Some(f) = next_field(bytes_from(run, at))? else {
         return Ok(None);
     };
-    if !is_read(f.tag, f.value.len()) {
-        return Err(Refusal::Broken);
-    }
+    refuse(!is_read(f.tag, f.value.len()), Refusal::Broken)?;
     // The bases follow the flags, to the field's end.
     let length = f.value.len() - 2;
     let end = run.len() - f.rest.len();
@@ -70,7 +76,7 @@ pub fn count_reads(run: &[u8]) -> ReadCount
 // Adds the errors of each read of a run at the first positions, no more than there are numbers, against what it should show.
 #[tactic(auto, using(crate::proofs::Run::run_next, crate::proofs::Run::next_further, crate::proofs::Run::next_within, crate::proofs::Run::run_end, crate::proofs::Run::run_broken, crate::proofs::Errors::begin, crate::proofs::Errors::one_more, crate::proofs::Errors::done, crate::proofs::Errors::same_length))]
 fn count_shown_run(run: &[u8], shown: ShownBases<'_>, errors: &mut [u16])
-    ensures { errors.new ≡ shown_errors (reads_of run.now) run.now shown.entry.positions shown.entry.first.now shown.entry.last.now errors.old }
+    ensures { errors.new ≡ shown_errors (reads_of run.now) run.now (shown_in shown.entry) errors.old }
 {
     let mut place = 0;
     // No index is counted up: where a read is depends on those before it.
@@ -84,7 +90,7 @@ fn count_shown_run(run: &[u8], shown: ShownBases<'_>, errors: &mut [u16])
 // than a strand may have. Of a broken run, the reads before the break count.
 #[tactic(auto, using(source_reads::proofs::Counted::as_expected))]
 pub fn count_run_errors(run: &[u8], s: CombinedBases<'_>, errors: &mut [u16])
-    ensures { errors.new ≡ counted_errors (reads_of run.now) run.now s.entry.ct s.entry.positions s.entry.a.bases.now s.entry.a.quals.now s.entry.b.bases.now s.entry.b.quals.now errors.old }
+    ensures { errors.new ≡ counted_errors (reads_of run.now) run.now (combined_in s.entry) errors.old }
 {
     let expected = ExpectedBases::counted(s, errors.len());
     count_shown_run(run, expected.shown(), errors);
