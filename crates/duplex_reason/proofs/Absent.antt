@@ -1,20 +1,26 @@
--- The claim of specs/Absent.antt.
+-- The claims of specs/Absent.antt.
 --     marks_seen        evidence without an annotation
---     not_looked_at     the claim
+--     not_looked_at, none_without_annotation     the claims
 -- Assumes nothing.
 use mathlib.Core.Path.{◌≡◌, refl, ap, ◌∙◌}
 use mathlib.Core.Bool.{Bool, true, false, cond}
 use mathlib.Core.List.{List}
 use Prim.Native.Nat.{ℕ}
+use native.Mathlib.Omega.{arith}
+use lib.ListN.{get_or}
 use Rattle.std.proofs.Common.{Option, Some, None, Result, Ok, Err}
 use Rattle.refusals.specs.declared.Refusal.{Refusal}
 use Rattle.refusals.specs.Outcome.{answer}
-use Rattle.methylation.specs.Annotation.{evidence_seen}
+use Rattle.methylation.specs.Annotation.{pattern_held, evidence_held, evidence_seen}
+use Rattle.methylation.specs.Arrays.{EvidenceArrays}
+use Rattle.methylation.specs.Outputs.{no_evidence}
+use Rattle.methylation.specs.declared.MethylationAnnotation.{MethylationAnnotation}
 use Rattle.methylation.specs.declared.ConversionPattern.{ConversionPattern}
 use Rattle.methylation.specs.declared.ConversionPattern.TheVariants.{CToT, GToA}
 use Rattle.vanilla_caller.specs.Strand.{Arrays}
+use Rattle.vanilla_caller.specs.declared.VanillaConsensusRead.{VanillaConsensusRead}
 use Rattle.duplex_kind.specs.Absent.{seen_of}
-use Rattle.duplex_kind.specs.Kind.{Strand, record_kind}
+use Rattle.duplex_kind.specs.Kind.{Strand, given_of, record_kind}
 use Rattle.duplex_kind.proofs.Absent as kind
 use Rattle.duplex_kind.specs.declared.DuplexConsensus.{DuplexConsensus}
 use Rattle.duplex_kind.specs.declared.DuplexConsensus.TheVariants.{Ab, Ba, Both}
@@ -22,7 +28,7 @@ use Rattle.duplex_reason.specs.Reason.{called_by, holds, reason_at}
 use Rattle.duplex_reason.specs.Record.{reason_told, shown_in, shown_at, within}
 use Rattle.duplex_reason.specs.declared.NoCallReason.{NoCallReason}
 use Rattle.duplex_reason.specs.declared.Shown.{Shown}
-use Rattle.duplex_reason.specs.Absent.{NotLookedAt}
+use Rattle.duplex_reason.specs.Absent.{NotLookedAt, NoneWithoutAnnotation}
 
 -- Of a record of one strand it does not matter what the strands show.
 module _ (s t u v : Shown) (k i : ℕ) where
@@ -70,4 +76,18 @@ not_looked_at = record {
   evidence = λ a b i.
       ap (λ (made : Result (Option DuplexConsensus) Refusal). reason_told made (shown_at (seen_of a) i) (shown_at (seen_of b) i) i) (kind.not_looked_at.evidence a b false 0 false)
       ∙ told_seen (record_kind a b false 0 false) a b i;
+}
+
+no_pattern : (m : Option MethylationAnnotation) → pattern_held m ≡ None → evidence_held m ≡ no_evidence
+no_pattern None e = refl
+no_pattern (Some m) e = let z : ◌≡◌ {A = ℕ} 0 1 = cc in absurd (omega arith)
+
+no_annotation : (s : Option VanillaConsensusRead) → (given_of s).annotation ≡ None → (given_of s).arrays.evidence ≡ no_evidence
+no_annotation None e = refl
+no_annotation (Some r) e = no_pattern r.methylation e
+
+pub none_without_annotation : NoneWithoutAnnotation
+none_without_annotation = record {
+  evidence = no_annotation;
+  mark = λ s i e. ap (λ (x : EvidenceArrays). get_or x.marks i 0) (no_annotation s e);
 }

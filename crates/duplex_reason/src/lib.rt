@@ -50,7 +50,7 @@ pub struct Shown {
 
 // Whether a strand is the informative one of a methylation call that the other confirms.
 // Not by duplex_call's test of a site, where A and B have their places: here a strand and the other are asked both ways round, in document
-// 02's words, and reason_claims proves that both tests agree.
+// 02's words. That both tests agree is the claim SameCalls of reason_claims.
 #[tactic(auto, unfolding(duplex_molecule::specs::Molecule::ct_input, crate::specs::Reason::called_by))]
 fn carries_call(s: Shown, other: Shown) -> bool
     ensures { result ≡ carries s other }
@@ -198,8 +198,9 @@ pub fn reason_in<E>(
 {
     let reason = match made? {
         None => NoCallReason::Outside,
-        Some(DuplexConsensus::Ab(n)) => within(n, NoCallReason::SingleStrand, position),
-        Some(DuplexConsensus::Ba(n)) => within(n, NoCallReason::SingleStrand, position),
+        Some(DuplexConsensus::Ab(n) | DuplexConsensus::Ba(n)) => {
+            within(n, NoCallReason::SingleStrand, position)
+        }
         Some(DuplexConsensus::Both(n)) => within(n, reason_at(a, b), position),
     };
     Ok(reason)

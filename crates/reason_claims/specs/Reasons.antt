@@ -5,12 +5,13 @@ use Rattle.refusals.specs.declared.Refusal.{Refusal}
 use Rattle.dna.specs.Dna.{letter_a, letter_c, letter_g, letter_n, letter_t, lower_n}
 use Rattle.methylation.specs.declared.ConversionPattern.{ConversionPattern}
 use Rattle.methylation.specs.declared.ConversionPattern.TheVariants.{CToT, GToA}
+use Rattle.duplex_molecule.specs.Molecule.{ct_input, call_at, is_call, is_call_of}
 use Rattle.duplex_outputs.specs.Outputs.{RecordArrays}
 use Rattle.duplex_kind.specs.Kind.{Strand}
 use Rattle.duplex_kind.specs.declared.DuplexConsensus.{DuplexConsensus}
 use Rattle.duplex_kind.specs.declared.DuplexConsensus.TheVariants.{Ab, Ba, Both}
 use Rattle.duplex_record.specs.Record.{DuplexAs}
-use Rattle.duplex_reason.specs.Reason.{holds, reasons, reason_at, is_reason}
+use Rattle.duplex_reason.specs.Reason.{carries, is_called, holds, reasons, reason_at, is_reason}
 use Rattle.duplex_reason.specs.Record.{reason_of}
 use Rattle.duplex_reason.specs.declared.NoCallReason.{NoCallReason}
 use Rattle.duplex_reason.specs.declared.NoCallReason.TheVariants.{Outside, SingleStrand, Called, ANoCall, BNoCall, BothNoCall, EqualQualities, CloseQualities, LowSum, LowConfirming}
@@ -77,6 +78,14 @@ pub record OnlyOneFits : Type 0 where
   pub holds_true : (a b : Shown) → is_reason (reason_at a b) ≡ true → holds (reason_at a b) a b ≡ true
   pub one : (a b : Shown) (x y : NoCallReason) → by_n x ≡ by_n y → holds x a b ≡ true → holds y a b ≡ true → x ≡ y
   pub n_first : (a b : Shown) (x : NoCallReason) → by_n x ≡ true → holds x a b ≡ true → reason_at a b ≡ x
+
+-- A methylation call is one thing here and in the combination, whatever two strands show at a position: a strand is the informative one
+-- of a call that the other confirms exactly where the combination's test of the position, by which strand is of pattern C to T, finds a
+-- call of that strand's pattern; and there is a call of one or the other exactly where that test finds any.
+pub record SameCalls : Type 0 where
+  pub from_a : (a b : Shown) → carries a b ≡ is_call_of a.annotation (call_at (ct_input a.annotation b.annotation) a.base b.base)
+  pub from_b : (a b : Shown) → carries b a ≡ is_call_of b.annotation (call_at (ct_input a.annotation b.annotation) a.base b.base)
+  pub from_either : (a b : Shown) → is_called a b ≡ is_call (call_at (ct_input a.annotation b.annotation) a.base b.base)
 
 -- A base and a quality, without an annotation; and of an annotated strand, marked informative or not.
 abbrev pub plain : ℕ → ℕ → Shown
