@@ -62,6 +62,7 @@ pub struct Figures {
 
 // A record's tags by their names: D the largest depth, M the smallest, E the error rate, of the first strand (a), the second (b)
 // and both (c). nc is the number of positions whose base is N and whose depth, that behind c, is above 0.
+// Flat, as the tags are: a struct of D, M and E for each of a, b and c would call them by other names than the tags'.
 #[derive(Clone, Copy)]
 pub struct MetricsRecord {
     pub aD: u32,
@@ -229,10 +230,10 @@ fn running_over(
     ensures { result ≡ running a.now (only_if second b.now) errors.now (only_if asked bases.now) }
 {
     let mut r = Running::start(first_depth(a, second, b));
-    for i in 0..errors.len() {
+    for (i, &error) in errors.iter().enumerate() {
         r = r.add(
             depth_at(a, second, b, i),
-            capped_u16(errors[i]),
+            capped_u16(error),
             base_at(asked, bases, i),
         );
     }
@@ -348,7 +349,8 @@ fn metrics_record(a: Figures, b: Figures, c: Figures, nc: u32) -> MetricsRecord
     }
 }
 
-// Row 7's condition for a strand's arrays.
+// Row 7's condition for a strand's arrays. Not by rate_refusal, which tests both rows of one strand: a record's arrays are all tested by 7
+// before any by 8.
 fn is_long(n: CountsLengths) -> bool
     ensures { result ≡ counts_long n }
 {
@@ -367,10 +369,10 @@ pub fn metrics_refusal(n: MetricsLengths) -> Result<(), Refusal>
     ensures { result ≡ answer (refused (metrics_faults n)) tt }
 {
     let long_record = (MAX_POSITIONS < n.bases) | (MAX_POSITIONS < n.errors);
-    let long_second = n.b.is_some_and(|b| is_long(b));
+    let long_second = n.b.is_some_and(is_long);
     refuse((is_long(n.a) | long_record) | long_second, Refusal::TooLong)?;
     let ragged_record = n.errors != n.bases;
-    let ragged_second = n.b.is_some_and(|b| is_ragged(b));
+    let ragged_second = n.b.is_some_and(is_ragged);
     refuse(
         (is_ragged(n.a) | ragged_record) | ragged_second,
         Refusal::Ragged,

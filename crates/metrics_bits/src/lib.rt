@@ -10,6 +10,7 @@ use duplex_metrics::{MetricsInput, MetricsRecord, duplex_metrics};
 use refusals::Refusal;
 
 // A record's tags, of which aE, bE and cE are the bits of 32-bit floats.
+// Not a MetricsRecord over any type of rate: a u32 in its place would not say that it is a float's bits, which the name here says.
 #[derive(Clone, Copy, Debug, PartialEq, Eq)]
 pub struct MetricsBits {
     pub aD: u32,
