@@ -13,10 +13,16 @@ use Rattle.byte_numbers.specs.Bytes.{number_of, words16}
 use Rattle.byte_numbers.proofs.Groups.{read_front}
 use Rattle.duplex_metrics.specs.Metrics.{input, input_of}
 use Rattle.duplex_metrics.specs.declared.Counts.{Counts}
-use Rattle.c_metrics.specs.Bytes.{Narrow, Arrays, CountsRead, arrays_in, second_in, counts_read, second_read, decoded}
+use Rattle.molecule_counts.specs.Counts.{Arrays, DecodedTo, zero_counts, arrays_in, second_in, counts_at_front}
+use Rattle.c_metrics.specs.Bytes.{Narrow, decoded}
 
 abbrev zeros : List ℕ
 zeros = replicate 1024 0
+
+-- The numbers of a strand that may be absent, which stand at the front of two arrays.
+abbrev pub second_at_front : Option (Counts ℕ) → Arrays → Option Arrays
+second_at_front None read = None
+second_at_front (Some s) read = Some (counts_at_front s read)
 
 front : (bytes : List ℕ) {now : List ℕ} → length bytes / 2 ≤ 1024 → now ≡ put (take (length zeros) (words16 bytes)) zeros → take (length bytes / 2) now ≡ words16 bytes
 front bytes h e = read_front 2 number_of bytes zeros h e
@@ -37,20 +43,20 @@ unfolding by_group tabulate
 no_numbers = refl
 
 pub read_as :
-    (a : Counts ℕ) (b : Option (Counts ℕ)) (bases errors : List ℕ) (first : Counts ℕ) (given : Option (Counts ℕ)) (b_depths b_errors : List ℕ) {a_depths a_errors own e : List ℕ}
+    (a : Counts ℕ) (b : Option (Counts ℕ)) (bases errors : List ℕ) (first : Counts ℕ) (given : Option (Counts ℕ)) (b_read : Arrays) {a_read : Arrays} {own e : List ℕ}
     → Narrow (input_of a b bases errors)
-    → CountsRead (Some a) zeros zeros a_depths a_errors
-    → CountsRead b zeros zeros b_depths b_errors
-    → arrays_in first ≡ counts_read a a_depths a_errors
-    → second_in given ≡ second_read b b_depths b_errors
+    → DecodedTo (Some a) zero_counts a_read
+    → DecodedTo b zero_counts b_read
+    → arrays_in first ≡ counts_at_front a a_read
+    → second_in given ≡ second_at_front b b_read
     → own ≡ put (take (length zeros) (words16 errors)) zeros
     → e ≡ take (length errors / 2) own
     → input_of first given bases e ≡ decoded (input_of a b bases errors)
-read_as a None bases errors first None b_depths b_errors h ra rb f g o e =
+read_as a None bases errors first None b_read h ra rb f g o e =
     same_input false bases (ap (λ (s : Arrays). s.depths) f ∙ front a.depths.now h.a ra.0) (ap (λ (s : Arrays). s.errors) f ∙ front a.errors.now h.a_errors ra.1) no_numbers no_numbers (e ∙ front errors h.errors o)
-read_as a None bases errors first (Some s) b_depths b_errors h ra rb f g o e = absurd cc
-read_as a (Some b) bases errors first None b_depths b_errors h ra rb f g o e = absurd cc
-read_as a (Some b) bases errors first (Some s) b_depths b_errors h ra rb f g o e =
-    let both : arrays_in s ≡ counts_read b b_depths b_errors = cc in
+read_as a None bases errors first (Some s) b_read h ra rb f g o e = absurd cc
+read_as a (Some b) bases errors first None b_read h ra rb f g o e = absurd cc
+read_as a (Some b) bases errors first (Some s) b_read h ra rb f g o e =
+    let both : arrays_in s ≡ counts_at_front b b_read = cc in
     same_input true bases (ap (λ (s : Arrays). s.depths) f ∙ front a.depths.now h.a ra.0) (ap (λ (s : Arrays). s.errors) f ∙ front a.errors.now h.a_errors ra.1)
     (ap (λ (s : Arrays). s.depths) both ∙ front b.depths.now h.b rb.0) (ap (λ (s : Arrays). s.errors) both ∙ front b.errors.now h.b_errors rb.1) (e ∙ front errors h.errors o)

@@ -1,7 +1,6 @@
 -- The metrics of a record from bytes to bytes, document 01's form for the viewer: the library's call `duplex_metrics` on the numbers
 -- that the bytes stand for.
-use Rattle.std.specs.Prelude.{ℕ, ◌/◌, ◌≤◌, ◌≡◌, Bool, ◌||◌, Option, Some, None, Result, Ok, Err, List, [], ◌∷◌, ◌++◌, length, take}
-use Rattle.lists.specs.Output.{put}
+use Rattle.std.specs.Prelude.{ℕ, ◌/◌, ◌≤◌, ◌≡◌, Bool, ◌||◌, Option, Some, None, Result, Ok, Err, List, [], ◌∷◌, ◌++◌, length}
 use Rattle.lists.specs.Part.{only_if}
 use Rattle.byte_numbers.specs.Bytes.{words16, odd_count, bytes32}
 use Rattle.refusals.specs.declared.Refusal.{Refusal}
@@ -9,7 +8,6 @@ use Rattle.refusals.specs.declared.Refusal.TheVariants.{Broken, OutputTooShort}
 use Rattle.refusals.specs.Refusal.{Fault, ◌if◌, any, too_short, refused, number_or_0}
 use Rattle.refusals.specs.Outcome.{answer, after}
 use Rattle.duplex_metrics.specs.Metrics.{Input, input, lengths, of_second, metrics_faults, metrics_of}
-use Rattle.duplex_metrics.specs.declared.Counts.{Counts}
 use Rattle.duplex_metrics.specs.declared.CountsLengths.{CountsLengths}
 use Rattle.duplex_metrics.specs.declared.MetricsLengths.{MetricsLengths}
 use Rattle.metrics_bits.specs.Bits.{metrics_words}
@@ -87,32 +85,6 @@ second_halves (Some n) = Some (halves n)
 
 abbrev pub halved_lengths : MetricsLengths → MetricsLengths
 halved_lengths n = record { a = halves n.a; b = second_halves n.b; bases = n.bases; errors = n.errors / 2 }
-
--- A strand's arrays, and those of one that may be absent.
-pub record Arrays : Type 0 where
-  pub depths : List ℕ
-  pub errors : List ℕ
-
-abbrev pub arrays_in : Counts ℕ → Arrays
-arrays_in s = record { depths = s.depths.now; errors = s.errors.now }
-
-abbrev pub second_in : Option (Counts ℕ) → Option Arrays
-second_in None = None
-second_in (Some s) = Some (arrays_in s)
-
--- What reading the numbers of a strand leaves in two lent arrays, where there is one.
-abbrev pub CountsRead : Option (Counts ℕ) → List ℕ → List ℕ → List ℕ → List ℕ → Type 0
-CountsRead None depths errors depths_now errors_now = Unit {0}
-CountsRead (Some s) depths errors depths_now errors_now =
-    (depths_now ≡ put (take (length depths) (words16 s.depths.now)) depths) × (errors_now ≡ put (take (length errors) (words16 s.errors.now)) errors)
-
--- As many numbers at the front of two arrays as a strand's bytes are.
-abbrev pub counts_read : Counts ℕ → List ℕ → List ℕ → Arrays
-counts_read s depths errors = record { depths = take (length s.depths.now / 2) depths; errors = take (length s.errors.now / 2) errors }
-
-abbrev pub second_read : Option (Counts ℕ) → List ℕ → List ℕ → Option Arrays
-second_read None depths errors = None
-second_read (Some s) depths errors = Some (counts_read s depths errors)
 
 -- Bytes of at most 1,024 numbers an array.
 pub record Narrow (x : Input) : Type 0 where

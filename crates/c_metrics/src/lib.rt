@@ -1,6 +1,6 @@
 // The metrics of a record from bytes to bytes: an array of wider numbers is its bytes, low byte first. It owns row 13 for them, and
 // the layout of the record; that of the bytes is byte_numbers's, what a call answers metrics_bits's.
-// Uses lists, refusals, byte_numbers, duplex_metrics and metrics_bits.
+// Uses lists, refusals, byte_numbers, duplex_metrics, metrics_bits and molecule_counts.
 #![tactic(auto)]
 
 ghost use Rattle.std.specs.Prelude.{◌≡◌, ◌≤◌, length};
@@ -8,11 +8,12 @@ ghost use Rattle.lists.specs.Output.{put};
 ghost use Rattle.byte_numbers.specs.Bytes.{odd_count, bytes32};
 ghost use Rattle.duplex_metrics.specs.Metrics.{input_given, metrics_of};
 ghost use Rattle.metrics_bits.specs.Bits.{metrics_words};
-ghost use Rattle.c_metrics.specs.Bytes.{Narrow, MetricsAs, CountsRead, arrays_in, second_in, counts_read, second_read, halves, halved_lengths, decoded, odd_strand, odd_bytes, record_words};
+ghost use Rattle.c_metrics.specs.Bytes.{Narrow, MetricsAs, halves, halved_lengths, decoded, odd_strand, odd_bytes, record_words};
 
-use duplex_metrics::{Counts, CountsLengths, MetricsInput, MetricsLengths, metrics_refusal};
+use duplex_metrics::{CountsLengths, MetricsInput, MetricsLengths, metrics_refusal};
 use lists::front;
 use metrics_bits::{MetricsBits, metrics_bits};
+use molecule_counts::CountBuffers;
 use refusals::{Refusal, refuse};
 
 // The bytes of a metrics record: ten numbers of four bytes.
@@ -27,53 +28,20 @@ fn write_record(r: MetricsBits, out: &mut [u8])
     byte_numbers::write(&words, out);
 }
 
-// Reads the numbers of a strand that may be absent, as many of each array as there is room for.
-fn read_counts(s: Option<Counts<u8>>, depths_out: &mut [u16], errors_out: &mut [u16])
-    ensures { CountsRead s.entry depths_out.old errors_out.old depths_out.new errors_out.new }
-{
-    if let Some(s) = s {
-        byte_numbers::read(s.depths, depths_out);
-        byte_numbers::read(s.errors, errors_out);
-    }
-}
-
-// The numbers of a strand that were read to the front of these arrays.
-fn counts_read<'a>(s: Counts<u8>, depths: &'a [u16], errors: &'a [u16]) -> Counts<'a, u16>
-    ensures { arrays_in result ≡ counts_read s.entry depths.now errors.now }
-{
-    Counts {
-        depths: front(depths, s.depths.len() / 2),
-        errors: front(errors, s.errors.len() / 2),
-    }
-}
-
-// The same of a strand that may be absent.
-fn second_read<'a>(
-    s: Option<Counts<u8>>,
-    depths: &'a [u16],
-    errors: &'a [u16],
-) -> Option<Counts<'a, u16>>
-    ensures { second_in result ≡ second_read s.entry depths.now errors.now }
-{
-    s.map(|s| counts_read(s, depths, errors))
-}
-
 // The library's call on the decoded numbers.
 fn decoded_metrics(x: MetricsInput<u8, u8>) -> Result<MetricsBits, Refusal>
     requires { Narrow (input_given x) }
     ensures { result ≡ metrics_words (metrics_of (decoded (input_given x.entry))) }
 {
-    // No heap: arrays of the most that is looked at.
-    let mut a_depths = [0; 1024];
-    let mut a_errors = [0; 1024];
-    let mut b_depths = [0; 1024];
-    let mut b_errors = [0; 1024];
+    let mut a = CountBuffers::zeros();
+    let mut b = CountBuffers::zeros();
+    // No heap: an array of the most that is looked at.
     let mut own = [0; 1024];
-    read_counts(Some(x.a), &mut a_depths, &mut a_errors);
-    read_counts(x.b, &mut b_depths, &mut b_errors);
+    a.decode(Some(x.a));
+    b.decode(x.b);
     byte_numbers::read(x.errors, &mut own);
-    let first = counts_read(x.a, &a_depths, &a_errors);
-    let second = second_read(x.b, &b_depths, &b_errors);
+    let first = a.counts(x.a);
+    let second = x.b.map(|s| b.counts(s));
     let own = front(&own, x.errors.len() / 2);
     metrics_bits(MetricsInput::new(first, second, x.bases, own))
 }
@@ -95,7 +63,7 @@ fn is_odd(n: CountsLengths) -> bool
 fn odd_bytes(n: MetricsLengths) -> bool
     ensures { result ≡ odd_bytes n }
 {
-    (is_odd(n.a) | odd(n.errors)) | n.b.is_some_and(|b| is_odd(b))
+    (is_odd(n.a) | odd(n.errors)) | n.b.is_some_and(is_odd)
 }
 
 // How many numbers so many bytes are.
@@ -114,7 +82,7 @@ fn halved_lengths(n: MetricsLengths) -> MetricsLengths
 {
     MetricsLengths {
         a: halved(n.a),
-        b: n.b.map(|b| halved(b)),
+        b: n.b.map(halved),
         bases: n.bases,
         errors: n.errors / 2,
     }

@@ -12,8 +12,6 @@ use lib.Dec.{ltb}
 use lib.ListN.{length, take}
 use lib.Seq.{take-nil, take-take}
 use Rattle.std.proofs.Common.{Option, None, Some, Result}
-use Rattle.std.specs.Bool.{then_some}
-use Rattle.std.specs.Option.{is_some, unwrap_or}
 use Rattle.byte_numbers.specs.Bytes.{words16}
 use Rattle.refusals.specs.declared.Refusal.{Refusal}
 use Rattle.refusals.specs.declared.Refusal.TheVariants.{TooLong}
@@ -26,9 +24,12 @@ use Rattle.duplex_metrics.specs.Metrics.{Input, input, input_given}
 use Rattle.duplex_metrics.specs.declared.Counts.{Counts}
 use Rattle.duplex_metrics.specs.declared.MetricsInput.{MetricsInput}
 use Rattle.metrics_bits.specs.declared.MetricsBits.{MetricsBits}
+use Rattle.molecule_counts.specs.Counts.{Arrays, DecodedTo, zero_counts, arrays_in, second_in}
 use Rattle.line_format.specs.declared.Kind.{Kind}
 use Rattle.line_report.specs.Report.{input_in, front_input, gated_report, judged, record_report}
+use Rattle.line_report.specs.Within.{first_read, second_read}
 use Rattle.line_report.specs.declared.Report.{Report}
+use Rattle.line_report.proofs.Read.{first_is}
 
 -- What refuses a record of over 1,024 positions.
 abbrev long_row : List ℕ → Option Refusal
@@ -82,24 +83,24 @@ module _ (kind : Kind) (n : ℕ) (second : Bool) (a ae b be bases errors ts : Li
 none_read : (n : ℕ) → ◌≡◌ {A = List ℕ} [] (take n (take 1024 []))
 none_read n = sym (take-nil n)
 
--- The same as the code has it: the second strand's numbers where it is there, as many of each of the others, and what of the record.
+-- The same as the code has it: what of the strands was read, as many of each of the others, and what of the record.
 pub own_read :
-    (kind : Kind) (n : ℕ) (a : Counts ℕ) (b : Option (Counts ℕ)) (bases errors ts : List ℕ) (none second : Counts ℕ) (x : MetricsInput ℕ ℕ)
-    {own other : Counts ℕ} {there : Bool} {given : Option (Counts ℕ)} {r : Result Report Refusal}
-    → own.depths.now ≡ take n (take 1024 (words16 a.depths.now))
-    → own.errors.now ≡ take n (take 1024 (words16 a.errors.now))
-    → second.depths.now ≡ take n (take 1024 (words16 other.depths.now))
-    → second.errors.now ≡ take n (take 1024 (words16 other.errors.now))
-    → other ≡ unwrap_or b none
-    → there ≡ is_some b
-    → given ≡ then_some there second
+    (kind : Kind) (n : ℕ) (a : Counts ℕ) (b : Option (Counts ℕ)) (bases errors ts : List ℕ) (x : MetricsInput ℕ ℕ) (own : Counts ℕ) (given : Option (Counts ℕ)) (a_read b_read : Arrays) {r : Result Report Refusal}
+    → DecodedTo (Some a) zero_counts a_read
+    → DecodedTo b zero_counts b_read
+    → arrays_in own ≡ first_read n a a_read
+    → second_in given ≡ second_read n b b_read
     → (x.a ≡ own) × (x.b ≡ given) × (x.bases.now ≡ take n bases) × (x.errors.now ≡ take n errors)
     → r ≡ judged kind n (input_given x) ts
     → r ≡ record_report kind n (input_in a b bases errors) ts
-own_read kind n a None bases errors ts none second x ad ae bd be o t g is e =
-    from_read kind n false (words16 a.depths.now) (words16 a.errors.now) [] [] bases errors ts ad ae (none_read n) (none_read n)
-    (e ∙ rw (is.0, is.1, is.2, is.3, g, t) refl)
-own_read kind n a (Some b) bases errors ts none second x ad ae bd be o t g is e =
-    from_read kind n true (words16 a.depths.now) (words16 a.errors.now) (words16 b.depths.now) (words16 b.errors.now) bases errors ts ad ae
-    (bd ∙ ap (λ (s : Counts ℕ). take n (take 1024 (words16 s.depths.now))) o) (be ∙ ap (λ (s : Counts ℕ). take n (take 1024 (words16 s.errors.now))) o)
-    (e ∙ rw (is.0, is.1, is.2, is.3, g, t) refl)
+own_read kind n a None bases errors ts x own None a_read b_read ra rb f g is e =
+    from_read kind n false (words16 a.depths.now) (words16 a.errors.now) [] [] bases errors ts (ap (λ (s : Arrays). s.depths) f ∙ first_is a.depths.now ra.0 n) (ap (λ (s : Arrays). s.errors) f ∙ first_is a.errors.now ra.1 n) (none_read n) (none_read n)
+    (e ∙ rw (is.0, is.1, is.2, is.3) refl)
+own_read kind n a None bases errors ts x own (Some s) a_read b_read ra rb f g is e = absurd cc
+own_read kind n a (Some b) bases errors ts x own None a_read b_read ra rb f g is e = absurd cc
+own_read kind n a (Some b) bases errors ts x own (Some s) a_read b_read ra rb f g is e =
+    let both : arrays_in s ≡ first_read n b b_read = cc in
+    from_read kind n true (words16 a.depths.now) (words16 a.errors.now) (words16 b.depths.now) (words16 b.errors.now) bases errors ts
+    (ap (λ (s : Arrays). s.depths) f ∙ first_is a.depths.now ra.0 n) (ap (λ (s : Arrays). s.errors) f ∙ first_is a.errors.now ra.1 n)
+    (ap (λ (s : Arrays). s.depths) both ∙ first_is b.depths.now rb.0 n) (ap (λ (s : Arrays). s.errors) both ∙ first_is b.errors.now rb.1 n)
+    (e ∙ rw (is.0, is.1, is.2, is.3) refl)

@@ -1,2 +1,2 @@
-pub mod Counted
 pub mod Report
+pub mod Within

@@ -1,10 +1,12 @@
 // What is reported of an answer beside its positions: its kind, its gate and its metrics, which are asked here on the record's own
-// strands. Uses lists, refusals, byte_numbers, duplex_kind, duplex_depths, duplex_gate, duplex_metrics, metrics_bits and line_format.
+// strands. Uses lists, refusals, byte_numbers, duplex_kind, duplex_depths, duplex_gate, duplex_metrics, metrics_bits,
+// molecule_counts and line_format.
 #![tactic(auto)]
 
 ghost use Rattle.std.specs.Prelude.{◌≡◌};
 ghost use Rattle.duplex_metrics.specs.Metrics.{input_given};
-ghost use Rattle.line_report.specs.Counted.{Counted};
+ghost use Rattle.molecule_counts.specs.Counts.{arrays_in, second_in, buffers_in};
+ghost use Rattle.line_report.specs.Within.{first_read, second_read};
 ghost use Rattle.line_report.specs.Report.{strands_in, input_in, judged, record_report, reported};
 
 use duplex_depths::RecordDepths;
@@ -14,6 +16,7 @@ use duplex_metrics::{Counts, MetricsInput, depths_of};
 use line_format::Kind;
 use lists::front;
 use metrics_bits::{MetricsBits, metrics_bits};
+use molecule_counts::CountBuffers;
 use refusals::Refusal;
 
 // What a record is made of, how many positions it has, whether the gate keeps it, and its metrics. Kind and positions apart, as line_format
@@ -50,13 +53,27 @@ fn judge(
     })
 }
 
-// Reads as many numbers as out has room for, and answers how many of the first n these are.
-#[tactic(auto, using(crate::proofs::Read::counted))]
-fn read_front(n: usize, bytes: &[u8], out: &mut [u16]) -> usize
-    ensures { Counted n bytes.now out.old out.new result }
+// The first n numbers of a strand that were read to these arrays.
+fn first_read<'a>(n: usize, s: Counts<u8>, read: &'a CountBuffers) -> Counts<'a, u16>
+    ensures { arrays_in result ≡ first_read n s.entry (buffers_in read.now) }
 {
-    byte_numbers::read(bytes, out);
-    n.min(out.len().min(bytes.len() / 2))
+    let all = read.counts(s);
+    Counts {
+        depths: front(all.depths, n),
+        errors: front(all.errors, n),
+    }
+}
+
+// The same of a strand that may be absent. A function: with the closure in own_report the proof does not close (tried), since of what a
+// closure that calls first_read answers nothing is told there that it can use.
+fn second_read<'a>(
+    n: usize,
+    s: Option<Counts<u8>>,
+    read: &'a CountBuffers,
+) -> Option<Counts<'a, u16>>
+    ensures { second_in result ≡ second_read n s.entry (buffers_in read.now) }
+{
+    s.map(|s| first_read(n, s, read))
 }
 
 // A record of n positions, given its own strands: no more than 1,024 numbers of each are looked at, since a record of more positions
@@ -69,26 +86,12 @@ fn own_report(
 ) -> Result<Report, Refusal>
     ensures { result ≡ record_report kind n (input_in x.entry.a x.entry.b x.entry.bases.now x.entry.errors.now) min_reads.now }
 {
-    let first = x.a;
-    let other = x.b.unwrap_or(Counts::none());
-    // No heap: arrays of the most that is looked at.
-    let mut a = [0; 1024];
-    let mut a_wrong = [0; 1024];
-    let mut b = [0; 1024];
-    let mut b_wrong = [0; 1024];
-    let a_count = read_front(n, first.depths, &mut a);
-    let a_wrong_count = read_front(n, first.errors, &mut a_wrong);
-    let b_count = read_front(n, other.depths, &mut b);
-    let b_wrong_count = read_front(n, other.errors, &mut b_wrong);
-    let own = Counts {
-        depths: &a[0..a_count],
-        errors: &a_wrong[0..a_wrong_count],
-    };
-    let others = Counts {
-        depths: &b[0..b_count],
-        errors: &b_wrong[0..b_wrong_count],
-    };
-    let others = x.b.is_some().then_some(others);
+    let mut a = CountBuffers::zeros();
+    a.decode(Some(x.a));
+    let mut b = CountBuffers::zeros();
+    b.decode(x.b);
+    let own = first_read(n, x.a, &a);
+    let others = second_read(n, x.b, &b);
     let within = MetricsInput::new(own, others, front(x.bases, n), front(x.errors, n));
     judge(kind, n, within, min_reads)
 }

@@ -1,15 +1,17 @@
 -- `line_report::own_report` meets its contract: what was read is judged. Assumes nothing.
-use mathlib.Core.Path.{◌∙◌}
-use Rattle.line_report.proofs.Read.{slice_read}
+use mathlib.Core.Path.{subst, ◌∙◌}
+use Rattle.std.proofs.Common.{Some}
+use Rattle.molecule_counts.specs.Counts.{Arrays, DecodedTo, buffers_in}
 use Rattle.line_report.proofs.Cut.{own_read}
 use Rattle.line_report.proofs.own_report.Goals as goal
 
 pub returns : goal.returns
 returns c =
-    let a = c.args in
+    let x = c.args.x in
     let told = c.new-within.ensures in
-    own_read a.kind a.n a.x.a a.x.b a.x.bases.now a.x.errors.now a.min_reads.now c.none.result _ c.new-within.result
-    (slice_read c.read_front-a_count.ensures) (slice_read c.read_front-a_wrong_count.ensures) (slice_read c.read_front-b_count.ensures) (slice_read c.read_front-b_wrong_count.ensures)
-    c.unwrap_or-other.ensures c.is_some.ensures c.then_some-others.ensures
+    own_read c.args.kind c.args.n x.a x.b x.bases.now x.errors.now c.args.min_reads.now c.new-within.result c.first_read-own.result c.second_read-others.result (buffers_in c.decode.new.self) (buffers_in c.decode-2.new.self)
+    (subst (λ (r : Arrays). DecodedTo (Some x.a) r (buffers_in c.decode.new.self)) c.zeros-a.ensures c.decode.ensures)
+    (subst (λ (r : Arrays). DecodedTo x.b r (buffers_in c.decode-2.new.self)) c.zeros-b.ensures c.decode-2.ensures)
+    c.first_read-own.ensures c.second_read-others.ensures
     (told.0, told.1, told.2 ∙ c.front.ensures, told.3 ∙ c.front-2.ensures)
     c.judge.ensures
