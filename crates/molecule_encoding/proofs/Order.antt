@@ -1,6 +1,7 @@
 -- Laws of the order of tags, and of fields that are in order and well-formed.
 --     not_below, still_ascending     what follows a tag is not below it; fields after a tag ascend
 --     fit_end, fit_cut, fit_next, fit_not     `fields_fit` by what the bytes begin with
+--     told_fit, told_not     a test that refuses where it is not met
 -- Assumes nothing.
 use mathlib.Core.Path.{◌≡◌, refl, sym, ap, ◌∙◌}
 use mathlib.Core.Bool.{Bool, true, false, not, ◌&&◌, ◌||◌, true≢false}
@@ -10,7 +11,10 @@ use native.Mathlib.Omega.{arith}
 use borrow.Author.Tests.{ltb-true, eqb-true, lt-ltb}
 use lib.Dec.{ltb, eqb}
 use Rattle.lists.specs.Every.{every}
+use Rattle.std.proofs.Common.{Ok, Err}
 use Rattle.refusals.proofs.Condition.{both_hold}
+use Rattle.refusals.specs.declared.Refusal.{Refusal}
+use Rattle.refusals.specs.Outcome.{refused_if}
 use Rattle.fields.specs.Encoding.{Field, nothing, cut, whole, front, Fields, whole_fields, cut_field}
 use Rattle.fields.proofs.Fields.{fields_none, fields_cut, fields_whole}
 use Rattle.molecule_fields.specs.Widths.{well_formed}
@@ -83,3 +87,11 @@ module _ (bytes : List ℕ) (last : ℕ) where
 
     pub fit_not : (follows last f.tag && well_formed f) ≡ false → fields_fit last bytes ≡ false
     fit_not t = opened ∙ first_not (not (cut_field rest)) (follows last f.tag) (well_formed f) (ascend_after f.tag (whole_fields rest)) (every well_formed (whole_fields rest)) t
+
+pub told_fit : (t : Bool) (row : Refusal) {x : Unit {0}} → refused_if (not t) row ≡ Ok x → t ≡ true
+told_fit true row e = refl
+told_fit false row e = let z : ◌≡◌ {A = ℕ} 0 1 = cc in absurd (omega arith)
+
+pub told_not : (t : Bool) (row : Refusal) {told : Refusal} → refused_if (not t) row ≡ Err told → (t ≡ false) × (told ≡ row)
+told_not true row e = let z : ◌≡◌ {A = ℕ} 0 1 = cc in absurd (omega arith)
+told_not false row e = (refl, cc)

@@ -54,9 +54,7 @@ fn check_fields(bytes: &[u8]) -> Result<OrderedFields<'_>, Refusal>
     let mut rest = bytes;
     // No index is counted up: where a field is depends on those before it.
     while let Some(f) = next_field(rest)? {
-        if !(tag_follows(last, f.tag) & field_fits(f)) {
-            return Err(Refusal::Broken);
-        }
+        refuse(!(tag_follows(last, f.tag) & field_fits(f)), Refusal::Broken)?;
         last = f.tag;
         rest = f.rest;
     }

@@ -2,9 +2,8 @@
 // and marks, and what a read is. Uses lists, byte_numbers and fields.
 #![tactic(auto)]
 
-ghost use Rattle.std.specs.Prelude.{◌≡◌};
+ghost use Rattle.std.specs.Prelude.{◌≡◌, length};
 ghost use Rattle.lists.specs.Every.{every, among};
-ghost use Rattle.fields.specs.Encoding.{field};
 ghost use Rattle.fields.specs.Slices.{field_in};
 ghost use Rattle.molecule_fields.specs.Widths.{annotation_tags, known_tag, read_field, length_fits, is_bit, marks, bits_fit, well_formed, flags_of};
 
@@ -49,19 +48,20 @@ fn is_annotation(tag: u8) -> bool
     matches!(tag, ANNOTATION_A | ANNOTATION_B)
 }
 
-// Whether a tag and a length are a read's.
+// Whether a field is a read. By its tag and how long its value is, not the field: who has these alone can ask.
 pub fn is_read(tag: u8, n: usize) -> bool
     ensures { result ≡ read_field tag n }
 {
     (tag == READ) & (2 <= n)
 }
 
-// Whether a length fits the widths of a tag's values.
+// Whether the length of a field's value fits the widths of its tag's.
 #[tactic(auto, unfolding(crate::specs::Widths::length_fits))]
-fn length_fits(tag: u8, n: usize) -> bool
-    ensures { result ≡ length_fits tag n }
+fn length_fits(f: FirstField) -> bool
+    ensures { result ≡ length_fits f.entry.tag (length f.entry.value.now) }
 {
-    match tag {
+    let n = f.value.len();
+    match f.tag {
         THRESHOLDS => n % 4 == 0,
         DEPTHS_A | ERRORS_A | DEPTHS_B | ERRORS_B => n % 2 == 0,
         ANNOTATION_A | ANNOTATION_B => n % 9 == 1,
@@ -80,10 +80,10 @@ fn marks_fit(value: &[u8]) -> bool
 }
 
 #[tactic(auto, unfolding(crate::specs::Widths::bits_fit))]
-fn bits_fit(tag: u8, value: &[u8]) -> bool
-    ensures { result ≡ bits_fit (field tag value.now) }
+fn bits_fit(f: FirstField) -> bool
+    ensures { result ≡ bits_fit (field_in f.entry) }
 {
-    !is_annotation(tag) || (get_or(value, 0, 0) <= 1 && marks_fit(value))
+    !is_annotation(f.tag) || (get_or(f.value, 0, 0) <= 1 && marks_fit(f.value))
 }
 
 // Whether a field has a tag of the format and a value that fits it. What follows the field is not looked at.
@@ -91,7 +91,7 @@ fn bits_fit(tag: u8, value: &[u8]) -> bool
 pub fn field_fits(f: FirstField) -> bool
     ensures { result ≡ well_formed (field_in f.entry) }
 {
-    known_tag(f.tag) && length_fits(f.tag, f.value.len()) && bits_fit(f.tag, f.value)
+    known_tag(f.tag) && length_fits(f) && bits_fit(f)
 }
 
 // The flags of a field that is a read. Of the field only the value is looked at.
