@@ -10,14 +10,14 @@ use Prim.Native.Nat.{ℕ, suc, ◌+◌, ◌*◌, ◌/◌, ◌^◌, ◌≤◌, �
 use native.Mathlib.Omega.{arith}
 use native.Mathlib.Nat.{add-zero}
 use borrow.Rule.Slice.PartMut.{put_mid}
-use lib.ListN.{length, drop, set, get_or, length-append, length-set}
+use lib.ListN.{length, take, drop, set, get_or, length-append, length-set}
 use lib.Seq.{sets, sets-eq, length-sets, drop-drop, get_or-take, get_or-drop, take_all, drop_at, take_at}
-use Rattle.std.specs.Int.{w32, to_le_bytes, from_le_bytes}
+use Rattle.std.specs.Int.{w32, to_le_bytes}
 use Rattle.byte_numbers.specs.Bytes.{number_of, bytes_of}
 use Rattle.byte_numbers.specs.Groups.{group, by_group}
 use Rattle.byte_numbers.specs.Lengths.{length_bytes}
-use Rattle.byte_numbers.proofs.Bytes.{number_of_bytes, four_at, number_le, le_bytes32}
-use Rattle.byte_numbers.proofs.Groups.{group_room, part_of_group, by_group_joined}
+use Rattle.byte_numbers.proofs.Bytes.{number_of_bytes, le_bytes32}
+use Rattle.byte_numbers.proofs.Groups.{part_of_group, by_group_joined}
 use Rattle.molecule_evidence.specs.Evidence.{position_bytes, evidence_bytes, mark_in, count_in, marks_of, unconverted_of, converted_of}
 
 pub length_position : (mark unconverted converted : ℕ) → length (position_bytes mark unconverted converted) ≡ 9
@@ -29,12 +29,9 @@ module _ (bytes : List ℕ) (i : ℕ) (h : i < length bytes / 9) where
   unfolding group
   mark_at = rw (get_or-take 9 (drop (9 * i) bytes) 0 0 (omega arith), get_or-drop, add-zero)
 
-  pub count_at :
-      (offset : ℕ)
-      → offset + 4 ≤ 9
-      → from_le_bytes w32 (get_or bytes (9 * i + offset) 0 ∷ get_or bytes (9 * i + offset + 1) 0 ∷ get_or bytes (9 * i + offset + 2) 0 ∷ get_or bytes (9 * i + offset + 3) 0 ∷ []) ≡ count_in offset (group 9 bytes i)
+  pub count_at : (offset : ℕ) → offset + 4 ≤ 9 → number_of (take 4 (drop (9 * i + offset) bytes)) ≡ count_in offset (group 9 bytes i)
   unfolding count_in
-  count_at offset fits = number_le _ _ _ _ ∙ four_at bytes (9 * i + offset) (omega (arith, group_room 9 bytes i h)) ∙ ap number_of (sym (part_of_group 9 offset 4 bytes i h fits))
+  count_at offset fits = ap number_of (sym (part_of_group 9 offset 4 bytes i h fits))
 
 -- As many elements as a part has are its places; and what is stored right behind is stored with them.
 part : (l vs : List ℕ) (at k : ℕ) → length vs ≡ k → at + k ≤ length l → put_mid at k l vs ≡ sets l at vs

@@ -1,19 +1,24 @@
 // A strand's evidence as bytes, nine for each position: read from bytes, and written as bytes to a lent output, as many whole
-// positions as there is room for. Uses lists and methylation, and the laws of byte_numbers.
+// positions as there is room for. Uses lists, methylation and byte_numbers.
 #![tactic(auto)]
 
 ghost use Rattle.std.specs.Prelude.{◌≡◌, ◌+◌, ◌/◌, ◌≤◌, length, take};
 ghost use Rattle.std.proofs.lemmas.List.Edits.{sets};
 ghost use Rattle.lists.specs.Output.{put};
+ghost use Rattle.methylation.specs.Arrays.{evidence_in};
 ghost use Rattle.methylation.specs.Outputs.{SameEvidence};
+ghost use Rattle.molecule_evidence.specs.Buffers.{zero_evidence, buffers_in};
 ghost use Rattle.molecule_evidence.specs.Evidence.{position_bytes, evidence_bytes, marks_of, counts_of, unconverted_of, converted_of};
 
+use byte_numbers::LittleEndian;
 use lists::get_or;
 use methylation::{Evidence, EvidenceOutputs, EvidenceSlices};
 
 // The bytes of a position.
 pub const POSITION_BYTES: usize = 9;
 
+// Not by `read_counts`, nor that by byte_numbers's `read`: a mark is one byte, of which no LittleEndian is made, and numbers that stand
+// side by side need no place in a position.
 fn read_marks(bytes: &[u8], marks: &mut [u8])
     ensures { marks.new ≡ put (take (length marks.old) (marks_of bytes.now)) marks.old }
 {
@@ -32,7 +37,7 @@ fn read_counts(bytes: &[u8], offset: usize, counts: &mut [u32])
     let n = counts.len().min(bytes.len() / POSITION_BYTES);
     for i in 0..n {
         let at = POSITION_BYTES * i + offset;
-        counts[i] = u32::from_le_bytes([bytes[at], bytes[at + 1], bytes[at + 2], bytes[at + 3]]);
+        counts[i] = u32::from_bytes(&bytes[at..at + 4]);
     }
 }
 
@@ -46,6 +51,52 @@ pub fn read_evidence(bytes: &[u8], out: &mut EvidenceOutputs<'_>)
     read_marks(bytes, out.marks);
     read_counts(bytes, 1, out.unconverted);
     read_counts(bytes, 5, out.converted);
+}
+
+// Arrays for a strand's evidence, each of the most that is looked at: no heap. Lent, not answered by value with what was read: that
+// would copy them.
+#[derive(Clone, Copy)]
+pub struct EvidenceBuffers {
+    pub marks: [u8; 1024],
+    pub unconverted: [u32; 1024],
+    pub converted: [u32; 1024],
+}
+
+impl EvidenceBuffers {
+    // As a call begins with them.
+    pub fn zeros() -> EvidenceBuffers
+        ensures { buffers_in result ≡ zero_evidence }
+    {
+        EvidenceBuffers {
+            marks: [0; 1024],
+            unconverted: [0; 1024],
+            converted: [0; 1024],
+        }
+    }
+
+    // `read_evidence` with these as its outputs.
+    pub fn read(&mut self, bytes: &[u8])
+        ensures marks { self.new.marks ≡ put (take (length self.old.marks) (marks_of bytes.now)) self.old.marks }
+        ensures unconverted { self.new.unconverted ≡ put (take (length self.old.unconverted) (unconverted_of bytes.now)) self.old.unconverted }
+        ensures converted { self.new.converted ≡ put (take (length self.old.converted) (converted_of bytes.now)) self.old.converted }
+    {
+        let mut out = EvidenceOutputs {
+            marks: &mut self.marks,
+            unconverted: &mut self.unconverted,
+            converted: &mut self.converted,
+        };
+        read_evidence(bytes, &mut out);
+    }
+
+    pub fn slices(&self) -> EvidenceSlices<'_>
+        ensures { evidence_in result ≡ buffers_in self.now }
+    {
+        EvidenceSlices {
+            marks: &self.marks,
+            unconverted: &self.unconverted,
+            converted: &self.converted,
+        }
+    }
 }
 
 // Writes a position's bytes from a place on.

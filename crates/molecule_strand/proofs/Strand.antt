@@ -1,28 +1,35 @@
 -- Laws of a strand given as bytes.
---     held_seen, held_misfit      of no annotation
+--     held_seen, held_positions     of no annotation
+--     by_lengths                what lengths alone refuse is what the early rows do
 --     nothing_read, none_read     of a strand that is absent
 --     Room, room                what arrays of 1,024 places each have room for
 --     strand_whole, plain_whole     what was read to such arrays is the strand that the bytes stand for
 -- Assumes nothing.
 use mathlib.Core.Path.{◌≡◌, refl, sym, ◌∙◌}
-use mathlib.Core.Bool.{Bool, false, not, ◌&&◌}
+use mathlib.Core.Bool.{Bool, true, false}
 use mathlib.Core.List.{List, []}
-use Prim.Native.Nat.{ℕ, ◌/◌, ◌%◌, ◌≤◌}
-use lib.Dec.{eqb}
+use Prim.Native.Nat.{ℕ, ◌/◌, ◌≤◌}
 use native.Mathlib.Omega.{arith}
 use lib.ListN.{length, take, replicate, length-replicate}
 use lib.Seq.{take-nil}
-use Rattle.std.proofs.Common.{Option, None, Some}
+use Rattle.std.proofs.Common.{Option, None, Some, option_map, Result}
+use Rattle.std.specs.Option.{option_and, option_map_or}
 use Rattle.lists.specs.Part.{only_if}
 use Rattle.lists.specs.Table.{tabulate}
 use Rattle.lists.proofs.Output.{put_none, put_fitting, front_of}
-use Rattle.methylation.specs.Arrays.{evidence_arrays}
+use Rattle.refusals.specs.declared.Refusal.{Refusal}
+use Rattle.refusals.specs.Refusal.{refused}
+use Rattle.refusals.specs.Outcome.{answer}
+use Rattle.methylation.specs.Arrays.{evidence_arrays, evidence_of_length}
+use Rattle.methylation.specs.declared.ConversionPattern.{ConversionPattern}
 use Rattle.methylation.specs.Methylation.{is_annotated}
+use Rattle.molecule_strand.specs.declared.ByteLengths.{ByteLengths}
 use Rattle.molecule_strand.specs.declared.EncodedAnnotation.{EncodedAnnotation}
 use Rattle.byte_numbers.specs.Bytes.{number_of}
 use Rattle.byte_numbers.specs.Groups.{by_group}
 use Rattle.byte_numbers.proofs.Groups.{length_by_group}
 use Rattle.molecule_evidence.specs.Evidence.{mark_in, count_in}
+use Rattle.molecule_strand.specs.Rows.{byte_lengths, misfit_in, is_misfit, long_in, is_long, early_faults, length_faults}
 use Rattle.molecule_strand.specs.Strand.{StrandBytes, strand_bytes, pattern_held, bytes_held, strand_of, Narrow, Numbers, numbers, ReadTo, evidence_seen, NumbersRead, StrandRead, numbers_strand}
 
 -- Without an annotation there are no bytes of evidence.
@@ -31,9 +38,36 @@ unfolding only_if
 held_seen None = refl
 held_seen (Some m) = refl
 
-pub held_misfit : (m : Option EncodedAnnotation) → (is_annotated (pattern_held m) && not (eqb (length (bytes_held m) % 9) 0)) ≡ not (eqb (length (bytes_held m) % 9) 0)
-held_misfit None = refl
-held_misfit (Some m) = refl
+pub held_positions : (m : Option EncodedAnnotation) → option_map (λ k. evidence_of_length (k / 9)) (option_and (pattern_held m) (Some (length (bytes_held m)))) ≡ option_and (pattern_held m) (Some (evidence_of_length (length (bytes_held m) / 9)))
+held_positions None = refl
+held_positions (Some m) = refl
+
+same_misfit :
+    (present : Bool) (annotation : Option ConversionPattern) (bases quals depths errors evidence : List ℕ)
+    → (let s = strand_bytes present annotation bases quals depths errors evidence in
+    option_map_or is_misfit (byte_lengths s) false ≡ misfit_in s)
+same_misfit false annotation bases quals depths errors evidence = refl
+same_misfit true None bases quals depths errors evidence = refl
+same_misfit true (Some pattern) bases quals depths errors evidence = refl
+
+same_long :
+    (present : Bool) (annotation : Option ConversionPattern) (bases quals depths errors evidence : List ℕ)
+    → (let s = strand_bytes present annotation bases quals depths errors evidence in
+    option_map_or is_long (byte_lengths s) false ≡ long_in s)
+same_long false annotation bases quals depths errors evidence = refl
+same_long true None bases quals depths errors evidence = refl
+same_long true (Some pattern) bases quals depths errors evidence = refl
+
+pub by_lengths :
+    (a b : StrandBytes) {x y : Option ByteLengths} {r : Result (Unit {0}) Refusal}
+    → x ≡ byte_lengths a
+    → y ≡ byte_lengths b
+    → r ≡ answer (refused (length_faults x y)) tt
+    → r ≡ answer (refused (early_faults a b)) tt
+by_lengths a b e f told =
+    rw
+    (← same_misfit a.present a.annotation a.bases a.quals a.depths a.errors a.evidence, ← same_misfit b.present b.annotation b.bases b.quals b.depths b.errors b.evidence, ← same_long a.present a.annotation a.bases a.quals a.depths a.errors a.evidence, ← same_long b.present b.annotation b.bases b.quals b.depths b.errors b.evidence)
+    (rw (e, f) at told)
 
 -- Of no bytes nothing is read.
 nothing : (width : ℕ) (f : List ℕ → ℕ) (before : List ℕ) → 0 / width ≡ 0 → ReadTo (by_group width f []) before before

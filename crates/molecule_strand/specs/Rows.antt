@@ -1,13 +1,14 @@
 -- The rows that are tested of strands given as bytes before their numbers are read, document 01: 13 and 7, by byte counts.
-use Rattle.std.specs.Prelude.{Some, ◌/◌, ◌%◌, Bool, not, ◌&&◌, ◌||◌, List, [], ◌∷◌, eqb, length}
+use Rattle.std.specs.Prelude.{Option, Some, None, option_map, ◌/◌, ◌%◌, Bool, false, cond, not, ◌&&◌, ◌||◌, List, [], ◌∷◌, eqb, length}
 use Rattle.refusals.specs.declared.Refusal.TheVariants.{Broken, TooLong}
 use Rattle.refusals.specs.Refusal.{Fault, ◌if◌}
-use Rattle.std.specs.Option.{option_and}
+use Rattle.std.specs.Option.{option_and, option_map_or}
 use Rattle.methylation.specs.Arrays.{evidence_of_length}
 use Rattle.methylation.specs.Methylation.{is_annotated}
 use Rattle.vanilla_caller.specs.Strand.{strand_too_long}
 use Rattle.vanilla_caller.specs.declared.Lengths.{Lengths}
 use Rattle.byte_numbers.specs.Bytes.{odd_count}
+use Rattle.molecule_strand.specs.declared.ByteLengths.{ByteLengths}
 use Rattle.molecule_strand.specs.Strand.{StrandBytes}
 
 -- Refusal 13's condition for a strand: a byte count that does not fit the widths. An absent strand's are not looked at, nor that of
@@ -35,4 +36,33 @@ abbrev pub early_faults : StrandBytes → StrandBytes → List Fault
 early_faults a b =
     (Broken if (misfit_in a || misfit_in b))
     ∷ (TooLong if (long_in a || long_in b))
+    ∷ []
+
+-- The same by the lengths alone: of a strand that is there how many bytes each array is, of evidence where there is an annotation.
+abbrev pub byte_lengths : StrandBytes → Option ByteLengths
+byte_lengths s =
+    cond s.present
+    (Some
+    (record {
+      bases = length s.bases;
+      quals = length s.quals;
+      depths = length s.depths;
+      errors = length s.errors;
+      evidence = option_and s.annotation (Some (length s.evidence));
+    }))
+    None
+
+abbrev pub is_misfit : ByteLengths → Bool
+is_misfit n = (odd_count n.depths || odd_count n.errors) || option_map_or (λ k. not (eqb (k % 9) 0)) n.evidence false
+
+abbrev pub positions_of : ByteLengths → Lengths
+positions_of n = record { bases = n.bases; quals = n.quals; depths = n.depths / 2; errors = n.errors / 2; evidence = option_map (λ k. evidence_of_length (k / 9)) n.evidence }
+
+abbrev pub is_long : ByteLengths → Bool
+is_long n = strand_too_long (positions_of n)
+
+abbrev pub length_faults : Option ByteLengths → Option ByteLengths → List Fault
+length_faults a b =
+    (Broken if (option_map_or is_misfit a false || option_map_or is_misfit b false))
+    ∷ (TooLong if (option_map_or is_long a false || option_map_or is_long b false))
     ∷ []

@@ -1,30 +1,37 @@
 -- A strand given as bytes, document 01's forms for the viewer and for an encoded molecule: depths and errors two bytes a position, low
 -- byte first, evidence nine.
-use Rattle.std.specs.Prelude.{None, Some, Option, ℕ, ◌/◌, ◌≤◌, ◌≡◌, Bool, true, false, cond, ◌&&◌, List, [], eqb, ltb, length, take}
+use Rattle.std.specs.Prelude.{None, Some, Option, Result, Ok, Err, ℕ, ◌/◌, ◌≤◌, ◌≡◌, Bool, true, false, cond, ◌&&◌, List, [], eqb, ltb, length, take}
+use Rattle.std.specs.Option.{option_and}
 use Rattle.lists.specs.Output.{put}
 use Rattle.lists.specs.Part.{only_if}
-use Rattle.methylation.specs.Arrays.{EvidenceArrays}
+use Rattle.refusals.specs.declared.Refusal.{Refusal}
+use Rattle.refusals.specs.declared.Refusal.TheVariants.{Broken}
+use Rattle.methylation.specs.Arrays.{EvidenceArrays, evidence_of_length}
 use Rattle.methylation.specs.Methylation.{is_annotated}
+use Rattle.methylation.specs.declared.ConversionPattern.{ConversionPattern}
 use Rattle.methylation.specs.declared.ConversionPattern.TheVariants.{CToT, GToA}
+use Rattle.methylation.specs.declared.EvidenceLengths.{EvidenceLengths}
 use Rattle.vanilla_caller.specs.Strand.{arrays}
 use Rattle.byte_numbers.specs.Bytes.{words16}
 use Rattle.molecule_evidence.specs.Evidence.{marks_of, unconverted_of, converted_of}
 use Rattle.duplex_kind.specs.Kind.{Strand, strand}
 use Rattle.molecule_strand.specs.declared.EncodedAnnotation.{EncodedAnnotation}
 use Rattle.molecule_strand.specs.declared.EncodedStrand.{EncodedStrand}
-use Rattle.methylation.specs.declared.ConversionPattern.{ConversionPattern}
 
--- A pattern by its number: 0 is C to T, 1 G to A. A number above 1 is refused.
-abbrev pub pattern_of : ℕ → ConversionPattern
-pattern_of number = cond (eqb number 0) CToT GToA
+-- A pattern by its byte: 0 is C to T, 1 G to A. A byte above 1 is refused.
+abbrev pub encoded_pattern : ℕ → ConversionPattern
+encoded_pattern byte = cond (eqb byte 0) CToT GToA
 
--- An annotation, where there is one, by the number of its pattern.
-abbrev pub annotation_of : Bool → ℕ → Option ConversionPattern
-annotation_of annotated pattern = cond annotated (Some (pattern_of pattern)) None
+-- An annotation, where there is one, by the byte of its pattern.
+abbrev pub encoded_annotation : Bool → ℕ → Option ConversionPattern
+encoded_annotation annotated pattern = cond annotated (Some (encoded_pattern pattern)) None
 
 -- A pattern above 1 is refused, where there is an annotation.
-abbrev pub wrong_pattern : Bool → ℕ → Bool
-wrong_pattern annotated pattern = annotated && ltb 1 pattern
+abbrev pub wrong_encoded_pattern : Bool → ℕ → Bool
+wrong_encoded_pattern annotated pattern = annotated && ltb 1 pattern
+
+abbrev pub encoded_annotation_in : Bool → ℕ → Result (Option ConversionPattern) Refusal
+encoded_annotation_in annotated pattern = cond (wrong_encoded_pattern annotated pattern) (Err Broken) (Ok (encoded_annotation annotated pattern))
 
 pub record StrandBytes : Type 0 where
   pub present : Bool
@@ -54,6 +61,10 @@ pattern_held (Some m) = Some m.pattern
 abbrev pub bytes_held : Option EncodedAnnotation → List ℕ
 bytes_held None = []
 bytes_held (Some m) = m.evidence.now
+
+-- How long that evidence is, by its whole positions, where there is an annotation.
+abbrev pub lengths_held : Option EncodedAnnotation → Option EvidenceLengths
+lengths_held m = option_and (pattern_held m) (Some (evidence_of_length (length (bytes_held m) / 9)))
 
 -- As the code has it, where it is there.
 abbrev pub encoded_in : Option EncodedStrand → StrandBytes

@@ -1,8 +1,8 @@
 // A strand given as bytes: what of it is looked at, the rows that are tested of its byte counts before its numbers are read, 13 and 7,
-// and its numbers. Uses lists, refusals, methylation, vanilla_caller, byte_numbers and molecule_evidence.
+// and its numbers. Uses lists, refusals, methylation, vanilla_caller, byte_numbers, molecule_evidence and duplex_kind.
 #![tactic(auto)]
 
-ghost use Rattle.std.specs.Prelude.{◌≡◌, None, Some, true};
+ghost use Rattle.std.specs.Prelude.{◌≡◌, ◌/◌, None, Some, length, true};
 ghost use Rattle.lists.specs.Part.{only_if};
 ghost use Rattle.refusals.specs.Refusal.{refused};
 ghost use Rattle.refusals.specs.Outcome.{answer};
@@ -10,8 +10,8 @@ ghost use Rattle.methylation.specs.Arrays.{evidence_in};
 ghost use Rattle.methylation.specs.Methylation.{is_annotated};
 ghost use Rattle.methylation.specs.Outputs.{SameEvidence};
 ghost use Rattle.duplex_kind.specs.Kind.{given_of};
-ghost use Rattle.molecule_strand.specs.Rows.{misfit_in, long_in, numbers_in, early_faults};
-ghost use Rattle.molecule_strand.specs.Strand.{pattern_of, annotation_of, wrong_pattern, strand_bytes, encoded_in, numbers, numbers_strand, NumbersRead, StrandRead};
+ghost use Rattle.molecule_strand.specs.Rows.{byte_lengths, is_misfit, positions_of, is_long, numbers_in, length_faults};
+ghost use Rattle.molecule_strand.specs.Strand.{encoded_pattern, encoded_annotation, wrong_encoded_pattern, encoded_annotation_in, pattern_held, bytes_held, lengths_held, strand_bytes, encoded_in, numbers, numbers_strand, NumbersRead, StrandRead};
 
 use lists::front;
 use methylation::{ConversionPattern, EvidenceLengths, EvidenceOutputs, EvidenceSlices};
@@ -26,7 +26,102 @@ pub struct EncodedAnnotation<'a> {
     pub evidence: &'a [u8],
 }
 
-// A strand whose numbers are bytes: depths and errors two a position, low byte first.
+impl<'a> EncodedAnnotation<'a> {
+    // Evidence counts with a pattern alone.
+    #[tactic(auto, unfolding(lists::specs::Part::only_if))]
+    pub fn of(
+        annotation: Option<ConversionPattern>,
+        evidence: &'a [u8],
+    ) -> Option<EncodedAnnotation<'a>>
+        ensures pattern { pattern_held result ≡ annotation }
+        ensures evidence { bytes_held result ≡ only_if (is_annotated annotation) evidence.now }
+    {
+        let pattern = annotation?;
+        Some(EncodedAnnotation { pattern, evidence })
+    }
+
+    // How many positions its bytes are.
+    fn places(self) -> usize
+        ensures { result ≡ length self.entry.evidence.now / 9 }
+    {
+        self.evidence.len() / POSITION_BYTES
+    }
+}
+
+// The pattern of an annotation, where there is one.
+pub fn pattern_held(m: Option<EncodedAnnotation>) -> Option<ConversionPattern>
+    ensures { result ≡ pattern_held m.entry }
+{
+    m.map(|m| m.pattern)
+}
+
+// The bytes of its evidence; without an annotation none.
+pub fn bytes_held<'a>(m: Option<EncodedAnnotation<'a>>) -> &'a [u8]
+    ensures { result.now ≡ bytes_held m.entry }
+{
+    m.map_or(&[], |m| m.evidence)
+}
+
+// How many positions they are.
+pub fn places_held(m: Option<EncodedAnnotation>) -> usize
+    ensures { result ≡ length (bytes_held m.entry) / 9 }
+{
+    m.map_or(0, EncodedAnnotation::places)
+}
+
+// How long its evidence is, where there is an annotation.
+pub fn lengths_held(m: Option<EncodedAnnotation>) -> Option<EvidenceLengths>
+    ensures { result ≡ lengths_held m.entry }
+{
+    m.map(|m| EvidenceLengths::of(m.places()))
+}
+
+// How many bytes each array of a strand is, its evidence's where there is an annotation.
+#[derive(Clone, Copy)]
+pub struct ByteLengths {
+    pub bases: usize,
+    pub quals: usize,
+    pub depths: usize,
+    pub errors: usize,
+    pub evidence: Option<usize>,
+}
+
+impl ByteLengths {
+    // Whether they do not fit the widths.
+    fn is_misfit(self) -> bool
+        ensures { result ≡ is_misfit self }
+    {
+        (self.depths % 2 != 0)
+            | (self.errors % 2 != 0)
+            | self.evidence.is_some_and(|n| n % POSITION_BYTES != 0)
+    }
+
+    // How many positions they are.
+    pub fn positions(self) -> Lengths
+        ensures { result ≡ positions_of self }
+    {
+        Lengths {
+            bases: self.bases,
+            quals: self.quals,
+            depths: self.depths / 2,
+            errors: self.errors / 2,
+            evidence: self
+                .evidence
+                .map(|n| EvidenceLengths::of(n / POSITION_BYTES)),
+        }
+    }
+
+    // Whether an array has over 1,024 positions.
+    fn is_long(self) -> bool
+        ensures { result ≡ is_long self }
+    {
+        strand_too_long(self.positions())
+    }
+}
+
+// A strand whose numbers are bytes: depths and errors two a position, low byte first. The fields are those of `VanillaConsensusRead`, and
+// not one struct for both: it would take a type for numbers and one for evidence wherever it stands, and lengths count numbers there,
+// halves and ninths of bytes here.
 #[derive(Clone, Copy)]
 pub struct EncodedStrand<'a> {
     pub bases: &'a [u8],
@@ -61,7 +156,6 @@ impl<'a> EncodedStrand<'a> {
     }
 
     // The strand with this annotation and its evidence, or with none.
-    #[tactic(auto, unfolding(lists::specs::Part::only_if))]
     pub fn annotated(
         self,
         annotation: Option<ConversionPattern>,
@@ -69,13 +163,7 @@ impl<'a> EncodedStrand<'a> {
     ) -> EncodedStrand<'a>
         ensures { encoded_in (Some result) ≡ strand_bytes true annotation self.entry.bases.now self.entry.quals.now self.entry.depths.now self.entry.errors.now (only_if (is_annotated annotation) evidence.now) }
     {
-        let Some(pattern) = annotation else {
-            return EncodedStrand {
-                methylation: None,
-                ..self
-            };
-        };
-        let methylation = Some(EncodedAnnotation { pattern, evidence });
+        let methylation = EncodedAnnotation::of(annotation, evidence);
         EncodedStrand {
             methylation,
             ..self
@@ -86,86 +174,95 @@ impl<'a> EncodedStrand<'a> {
     pub fn annotation(self) -> Option<ConversionPattern>
         ensures { result ≡ (encoded_in (Some self.entry)).annotation }
     {
-        self.methylation.map(|m| m.pattern)
+        pattern_held(self.methylation)
     }
 
     // Its annotation's evidence; without one none.
     pub fn evidence(self) -> &'a [u8]
         ensures { result.now ≡ (encoded_in (Some self.entry)).evidence }
     {
-        self.methylation.map_or(&[], |m| m.evidence)
+        bytes_held(self.methylation)
+    }
+
+    // How many bytes each array is, its evidence where there is an annotation.
+    pub fn byte_lengths(self) -> ByteLengths
+        ensures { Some result ≡ byte_lengths (encoded_in (Some self.entry)) }
+    {
+        ByteLengths {
+            bases: self.bases.len(),
+            quals: self.quals.len(),
+            depths: self.depths.len(),
+            errors: self.errors.len(),
+            evidence: self.methylation.map(|m| m.evidence.len()),
+        }
     }
 
     // How many positions the bytes of each array are, those of its evidence where there is an annotation.
+    #[tactic(auto, using(crate::proofs::Strand::held_positions))]
     pub fn lengths(self) -> Lengths
         ensures { result ≡ numbers_in (encoded_in (Some self.entry)) }
     {
-        Lengths {
-            bases: self.bases.len(),
-            quals: self.quals.len(),
-            depths: self.depths.len() / 2,
-            errors: self.errors.len() / 2,
-            evidence: self
-                .methylation
-                .map(|m| EvidenceLengths::of(m.evidence.len() / POSITION_BYTES)),
-        }
+        self.byte_lengths().positions()
     }
 }
 
-// A pattern by its number: 0 is C to T, any other G to A.
-pub fn pattern_of(number: u8) -> ConversionPattern
-    ensures { result ≡ pattern_of number }
+// A pattern by its byte: 0 is C to T, any other G to A. (methylation's `pattern_of` reads the numbers of calls that take no bytes, 1 and 2.)
+// This, `wrong_encoded_pattern` and `encoded_annotation` are promised so and cannot fail: `encoded_annotation_in` is made of them.
+pub fn encoded_pattern(byte: u8) -> ConversionPattern
+    ensures { result ≡ encoded_pattern byte }
 {
-    match number {
+    match byte {
         0 => ConversionPattern::CToT,
         _ => ConversionPattern::GToA,
     }
 }
 
-// A strand's annotation, where it has one, by the number of its pattern. C gives a flag and a number.
-pub fn annotation_of(annotated: bool, pattern: u8) -> Option<ConversionPattern>
-    ensures { result ≡ annotation_of annotated pattern }
+// A strand's annotation, where it has one, by the byte of its pattern. C gives a flag and a byte, here and below.
+pub fn encoded_annotation(annotated: bool, pattern: u8) -> Option<ConversionPattern>
+    ensures { result ≡ encoded_annotation annotated pattern }
 {
-    annotated.then(|| pattern_of(pattern))
+    annotated.then(|| encoded_pattern(pattern))
 }
 
-// Whether there is an annotation, and the number of its pattern stands for none: row 13's condition for it.
-// C gives a flag and a number.
-pub fn wrong_pattern(annotated: bool, pattern: u8) -> bool
-    ensures { result ≡ wrong_pattern annotated pattern }
+// Whether there is an annotation, and the byte of its pattern stands for none: row 13's condition for it.
+pub fn wrong_encoded_pattern(annotated: bool, pattern: u8) -> bool
+    ensures { result ≡ wrong_encoded_pattern annotated pattern }
 {
     annotated & (1 < pattern)
 }
 
-// Whether byte counts do not fit the widths. An absent strand's are not looked at.
-#[tactic(auto, using(crate::proofs::Strand::held_misfit))]
-fn is_misfit(s: Option<EncodedStrand>) -> bool
-    ensures { result ≡ misfit_in (encoded_in s.entry) }
+// The annotation, where there is one. Refuses by 13; without an annotation the pattern is not looked at.
+pub fn encoded_annotation_in(
+    annotated: bool,
+    pattern: u8,
+) -> Result<Option<ConversionPattern>, Refusal>
+    ensures { result ≡ encoded_annotation_in annotated pattern }
 {
-    s.is_some_and(|s| {
-        (s.depths.len() % 2 != 0)
-            | (s.errors.len() % 2 != 0)
-            | (s.evidence().len() % POSITION_BYTES != 0)
-    })
+    refuse(wrong_encoded_pattern(annotated, pattern), Refusal::Broken)?;
+    Ok(encoded_annotation(annotated, pattern))
 }
 
-// Whether an array that is looked at has over 1,024 positions.
-fn is_long(s: Option<EncodedStrand>) -> bool
-    ensures { result ≡ long_in (encoded_in s.entry) }
+// How many bytes each array of a strand is that may be absent.
+pub fn byte_lengths(s: Option<EncodedStrand>) -> Option<ByteLengths>
+    ensures { result ≡ byte_lengths (encoded_in s.entry) }
 {
-    s.is_some_and(|s| strand_too_long(s.lengths()))
+    s.map(EncodedStrand::byte_lengths)
 }
 
-// The rows that are tested of two strands given as bytes, either of which may be absent, before numbers are read: of their slices the
-// lengths alone are looked at. Refuses by 13, 7. The strands are two operands: a struct of both would be taken apart for each test.
-pub fn early_refusal(a: Option<EncodedStrand>, b: Option<EncodedStrand>) -> Result<(), Refusal>
-    ensures { result ≡ answer (refused (early_faults (encoded_in a.entry) (encoded_in b.entry))) tt }
+// The rows that are tested of two strands given as bytes, either of which may be absent, before numbers are read: of the lengths of their
+// arrays alone. Refuses by 13, 7. The strands are two operands: a struct of both would be taken apart for each test.
+pub fn early_refusal(a: Option<ByteLengths>, b: Option<ByteLengths>) -> Result<(), Refusal>
+    ensures { result ≡ answer (refused (length_faults a b)) tt }
 {
-    refuse(is_misfit(a) | is_misfit(b), Refusal::Broken)?;
-    refuse(is_long(a) | is_long(b), Refusal::TooLong)
+    let misfit = a.is_some_and(ByteLengths::is_misfit) | b.is_some_and(ByteLengths::is_misfit);
+    refuse(misfit, Refusal::Broken)?;
+    let long = a.is_some_and(ByteLengths::is_long) | b.is_some_and(ByteLengths::is_long);
+    refuse(long, Refusal::TooLong)
 }
 
 // Reads as many of a strand's depths and errors as there is room for. Its other slices are not looked at.
+// Not one function with molecule_counts' `CountBuffers::decode`: for both it would take the two slices and the two outputs, and be no more than
+// these two lines.
 #[tactic(auto, using(crate::proofs::Strand::nothing_read))]
 pub fn read_numbers(s: Option<EncodedStrand>, depths_out: &mut [u16], errors_out: &mut [u16])
     ensures { NumbersRead (encoded_in s.entry) depths_out.old errors_out.old depths_out.new errors_out.new }
@@ -214,6 +311,6 @@ pub fn strand_of_numbers<'a>(
         front(depths, s.depths.len() / 2),
         front(errors, s.errors.len() / 2),
     );
-    let places = s.evidence().len() / POSITION_BYTES;
+    let places = places_held(s.methylation);
     Some(strand.annotated(s.annotation(), evidence.front(places)))
 }
