@@ -1,5 +1,5 @@
 // The duplex record of strands given as bytes, written as bytes: what the entry point for C does. The record is molecule_consensus's, the
-// outputs are c_record's. Uses refusals, methylation, duplex_kind, molecule_strand, molecule_consensus and c_record.
+// outputs are c_record's. Uses refusals, methylation, duplex_kind, duplex_outputs, molecule_strand, molecule_consensus and c_record.
 #![tactic(auto)]
 
 ghost use Rattle.std.specs.Prelude.{◌≡◌, []};
@@ -21,7 +21,7 @@ use refusals::Refusal;
 fn annotation_of(s: Option<EncodedStrand>) -> Option<ConversionPattern>
     ensures { result ≡ (encoded_in s.entry).annotation }
 {
-    s.and_then(|s| s.annotation())
+    s.and_then(EncodedStrand::annotation)
 }
 
 // The record, with arrays for evidence.
@@ -41,16 +41,8 @@ fn annotated_bytes(
         bases: &own.bases,
         quals: &own.quals,
         errors: &own.errors,
-        a: EvidenceSlices {
-            marks: &own.a_marks,
-            unconverted: &own.a_unconverted,
-            converted: &own.a_converted,
-        },
-        b: EvidenceSlices {
-            marks: &own.b_marks,
-            unconverted: &own.b_unconverted,
-            converted: &own.b_converted,
-        },
+        a: own.a.slices(),
+        b: own.b.slices(),
     };
     write_record(made, annotation_of(m.a), annotation_of(m.b), arrays, out)
 }
@@ -84,7 +76,8 @@ pub fn duplex_consensus_bytes(
     if annotation_of(m.a).is_some() | annotation_of(m.b).is_some() {
         return annotated_bytes(m, out);
     }
-    // No heap: arrays of the most that is looked at. No struct of the three: it would be taken apart for the outputs and for the slices.
+    // No heap: arrays of the most that is looked at. No struct of the three, no plainer: it would stand at this place alone; RecordBuffers
+    // has arrays for evidence, which would be cleared for nothing.
     let mut bases = [0; 1024];
     let mut quals = [0; 1024];
     let mut wrong = [0; 1024];

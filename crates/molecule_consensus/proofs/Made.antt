@@ -21,8 +21,7 @@ use Rattle.duplex_kind.specs.declared.DuplexConsensus.{DuplexConsensus}
 use Rattle.duplex_kind.specs.declared.GivenReads.{GivenReads}
 use Rattle.duplex_record.specs.Record.{DuplexAs}
 use Rattle.duplex_record.specs.Parts.{plain_of}
-use Rattle.duplex_molecule.specs.Molecule.{ct_input}
-use Rattle.duplex_consensus.specs.Consensus.{counted_positions}
+use Rattle.duplex_consensus.specs.Consensus.{bases_of, combined_of, counted_positions}
 use Rattle.duplex_consensus.proofs.Counting.{none_asked}
 use Rattle.duplex_consensus.proofs.Made.{with_errors}
 use Rattle.source_reads.specs.Reads.{counted_errors}
@@ -93,7 +92,7 @@ module _
         → DuplexAs x y (is_some list) (count_in list) (leaving_in list) uncounted before now (Ok made)
         → p ≡ x
         → q ≡ y
-        → us ≡ counted_errors (reads_of run) run (ct_input p.annotation q.annotation) (counted_positions {E = Refusal} listed (Ok made)) p.arrays.bases p.arrays.quals q.arrays.bases q.arrays.quals now.errors
+        → us ≡ counted_errors (reads_of run) run (combined_of p q (counted_positions {E = Refusal} listed (Ok made))) now.errors
         → BytesAs (seen (encoded_in a)) (seen (encoded_in b)) listed run before (with_errors us now) (Ok made)
     made_of {now} d e f c = passed_on a b listed run before t early (made_as _ _ l before now (rw (first, second) at d) (rw (e ∙ first, f ∙ second) at c))
 
@@ -103,11 +102,11 @@ module _
         → DuplexAs x y (is_some list) (count_in list) (leaving_in list) uncounted before now r
         → p ≡ x
         → q ≡ y
-        → us ≡ counted_errors (reads_of run) run (ct_input p.annotation q.annotation) (counted_positions listed r) p.arrays.bases p.arrays.quals q.arrays.bases q.arrays.quals now.errors
+        → us ≡ counted_errors (reads_of run) run (combined_of p q (counted_positions listed r)) now.errors
         → BytesAs (seen (encoded_in a)) (seen (encoded_in b)) listed run before (with_errors us now) r
     answered_of (Ok made) d e f c = made_of d e f c
     answered_of {now} (Err row) {us} {p} {q} d e f c =
-        let kept : us ≡ now.errors = c ∙ none_asked (reads_of run) run (ct_input p.annotation q.annotation) p.arrays.bases p.arrays.quals q.arrays.bases q.arrays.quals now.errors in
+        let kept : us ≡ now.errors = c ∙ none_asked (reads_of run) run _ (bases_of p.arrays) (bases_of q.arrays) now.errors in
         rw kept (refused_by_row d)
 
 -- The same of strands that are equal.

@@ -38,4 +38,4 @@ zero_buffers =
 
 -- A call's own arrays, as the code has them.
 abbrev pub buffers_in : RecordBuffers → RecordArrays
-buffers_in r = record_of r.bases r.quals r.errors r.a_marks r.a_unconverted r.a_converted r.b_marks r.b_unconverted r.b_converted
+buffers_in r = record_of r.bases r.quals r.errors r.a.marks r.a.unconverted r.a.converted r.b.marks r.b.unconverted r.b.converted

@@ -1,13 +1,16 @@
 // The duplex record of strands given as bytes: what an encoded molecule and the entry points for C have in common. What is looked at,
 // rows 13 and 7 and the numbers are molecule_strand's, the record duplex_record's, the reads molecule_errors's.
-// Uses refusals, methylation, molecule_strand, duplex_kind, duplex_record and molecule_errors.
+// Uses lists, refusals, methylation, vanilla_caller, byte_numbers, molecule_evidence, molecule_strand, molecule_fields, molecule_reads,
+// duplex_kind, duplex_outputs, duplex_record and molecule_errors.
 #![tactic(auto)]
 
 ghost use Rattle.std.specs.Prelude.{◌≡◌};
 ghost use Rattle.methylation.specs.Outputs.{evidence_out, no_evidence, SameEvidence};
 ghost use Rattle.duplex_outputs.specs.Lent.{record_out, SameOutputs};
-ghost use Rattle.molecule_strand.specs.Strand.{encoded_in};
+ghost use Rattle.duplex_kind.specs.Kind.{given_of};
+ghost use Rattle.molecule_strand.specs.Strand.{encoded_in, StrandRead};
 ghost use Rattle.molecule_consensus.specs.Bytes.{plain};
+ghost use Rattle.molecule_consensus.specs.Numbers.{numbers_in, zero_numbers, strand_read};
 ghost use Rattle.molecule_consensus.specs.Molecule.{molecule_in, seen_of, plain_of, zero_buffers, buffers_in, MoleculeAs};
 
 use duplex_kind::DuplexConsensus;
@@ -15,8 +18,12 @@ use duplex_outputs::RecordOutputs;
 use duplex_record::{duplex_record, plain_record};
 use methylation::{EvidenceOutputs, EvidenceSlices};
 use molecule_errors::{count_errors, read_list};
-use molecule_strand::{EncodedStrand, early_refusal, read_numbers, read_strand, strand_of_numbers};
+use molecule_evidence::EvidenceBuffers;
+use molecule_strand::{
+    EncodedStrand, byte_lengths, early_refusal, read_numbers, read_strand, strand_of_numbers,
+};
 use refusals::Refusal;
+use vanilla_caller::VanillaConsensusRead;
 
 // A molecule whose numbers are bytes and whose reads are a run: each strand may be absent, and so may the list of reads.
 #[derive(Clone, Copy)]
@@ -26,8 +33,51 @@ pub struct EncodedMolecule<'a> {
     pub reads: Option<&'a [u8]>,
 }
 
+// Arrays for a strand's numbers, each of the most that is looked at: no heap. They are read where they stand, lent to what writes them and
+// then to what reads them. Depths and errors are no molecule_counts::CountBuffers: it is read by the Counts of the metrics, and none of its
+// methods but `zeros` would be called here.
+#[derive(Clone, Copy)]
+struct StrandBuffers {
+    depths: [u16; 1024],
+    errors: [u16; 1024],
+    evidence: EvidenceBuffers,
+}
+
+impl StrandBuffers {
+    // As a call begins with them.
+    fn zeros() -> StrandBuffers
+        ensures { numbers_in result ≡ zero_numbers }
+    {
+        StrandBuffers {
+            depths: [0; 1024],
+            errors: [0; 1024],
+            evidence: EvidenceBuffers::zeros(),
+        }
+    }
+
+    // `read_strand` with these as its outputs.
+    fn read(&mut self, s: Option<EncodedStrand>)
+        ensures { StrandRead (encoded_in s.entry) (numbers_in self.old) (numbers_in self.new) }
+    {
+        let mut evidence = EvidenceOutputs {
+            marks: &mut self.evidence.marks,
+            unconverted: &mut self.evidence.unconverted,
+            converted: &mut self.evidence.converted,
+        };
+        read_strand(s, &mut self.depths, &mut self.errors, &mut evidence);
+    }
+
+    // The strand that was read.
+    fn strand<'a>(&'a self, s: Option<EncodedStrand<'a>>) -> Option<VanillaConsensusRead<'a>>
+        ensures { given_of result ≡ strand_read (encoded_in s.entry) (numbers_in self.now) }
+    {
+        strand_of_numbers(s, &self.depths, &self.errors, self.evidence.slices())
+    }
+}
+
 // The record of two strands, of one or of none, whose numbers are bytes and whose reads are a run, where there is a list. Evidence is
-// not looked at without an annotation. Refuses by 13, 7, 8, 9, then by 12 for what is written.
+// not looked at without an annotation. Refuses by 13, 7, 8, 9, then by 12 for what is written. No struct of all outputs: who makes one
+// that nests lent structs learns nothing of what their slices hold.
 pub fn duplex_consensus_of_bytes(
     m: EncodedMolecule,
     out: &mut RecordOutputs<'_>,
@@ -41,42 +91,13 @@ pub fn duplex_consensus_of_bytes(
         result }
 {
     let list = read_list(m.reads)?;
-    early_refusal(m.a, m.b)?;
-    // No heap: arrays of the most that is looked at, each lent to what writes it and then to what reads it.
-    let mut a_depths = [0; 1024];
-    let mut a_errors = [0; 1024];
-    let mut a_marks = [0; 1024];
-    let mut a_unconverted = [0; 1024];
-    let mut a_converted = [0; 1024];
-    let mut a_evidence = EvidenceOutputs {
-        marks: &mut a_marks,
-        unconverted: &mut a_unconverted,
-        converted: &mut a_converted,
-    };
-    read_strand(m.a, &mut a_depths, &mut a_errors, &mut a_evidence);
-    let mut b_depths = [0; 1024];
-    let mut b_errors = [0; 1024];
-    let mut b_marks = [0; 1024];
-    let mut b_unconverted = [0; 1024];
-    let mut b_converted = [0; 1024];
-    let mut b_evidence = EvidenceOutputs {
-        marks: &mut b_marks,
-        unconverted: &mut b_unconverted,
-        converted: &mut b_converted,
-    };
-    read_strand(m.b, &mut b_depths, &mut b_errors, &mut b_evidence);
-    let a_evidence = EvidenceSlices {
-        marks: &a_marks,
-        unconverted: &a_unconverted,
-        converted: &a_converted,
-    };
-    let a_read = strand_of_numbers(m.a, &a_depths, &a_errors, a_evidence);
-    let b_evidence = EvidenceSlices {
-        marks: &b_marks,
-        unconverted: &b_unconverted,
-        converted: &b_converted,
-    };
-    let b_read = strand_of_numbers(m.b, &b_depths, &b_errors, b_evidence);
+    early_refusal(byte_lengths(m.a), byte_lengths(m.b))?;
+    let mut a_numbers = StrandBuffers::zeros();
+    a_numbers.read(m.a);
+    let mut b_numbers = StrandBuffers::zeros();
+    b_numbers.read(m.b);
+    let a_read = a_numbers.strand(m.a);
+    let b_read = b_numbers.strand(m.b);
     let made = duplex_record(a_read, b_read, list, out, a_out, b_out);
     count_errors(made, m.reads, a_read, b_read, out.errors);
     made
@@ -89,12 +110,8 @@ pub struct RecordBuffers {
     pub bases: [u8; 1024],
     pub quals: [u8; 1024],
     pub errors: [u16; 1024],
-    pub a_marks: [u8; 1024],
-    pub a_unconverted: [u32; 1024],
-    pub a_converted: [u32; 1024],
-    pub b_marks: [u8; 1024],
-    pub b_unconverted: [u32; 1024],
-    pub b_converted: [u32; 1024],
+    pub a: EvidenceBuffers,
+    pub b: EvidenceBuffers,
 }
 
 impl RecordBuffers {
@@ -106,12 +123,8 @@ impl RecordBuffers {
             bases: [0; 1024],
             quals: [0; 1024],
             errors: [0; 1024],
-            a_marks: [0; 1024],
-            a_unconverted: [0; 1024],
-            a_converted: [0; 1024],
-            b_marks: [0; 1024],
-            b_unconverted: [0; 1024],
-            b_converted: [0; 1024],
+            a: EvidenceBuffers::zeros(),
+            b: EvidenceBuffers::zeros(),
         }
     }
 
@@ -128,14 +141,14 @@ impl RecordBuffers {
             errors: &mut self.errors,
         };
         let mut a_evidence = EvidenceOutputs {
-            marks: &mut self.a_marks,
-            unconverted: &mut self.a_unconverted,
-            converted: &mut self.a_converted,
+            marks: &mut self.a.marks,
+            unconverted: &mut self.a.unconverted,
+            converted: &mut self.a.converted,
         };
         let mut b_evidence = EvidenceOutputs {
-            marks: &mut self.b_marks,
-            unconverted: &mut self.b_unconverted,
-            converted: &mut self.b_converted,
+            marks: &mut self.b.marks,
+            unconverted: &mut self.b.unconverted,
+            converted: &mut self.b.converted,
         };
         duplex_consensus_of_bytes(m, &mut own, &mut a_evidence, &mut b_evidence)
     }
@@ -165,9 +178,10 @@ pub fn plain_consensus_of_bytes(
     let a = plain(m.a);
     let b = plain(m.b);
     let list = read_list(m.reads)?;
-    early_refusal(a, b)?;
+    early_refusal(byte_lengths(a), byte_lengths(b))?;
     let none = EvidenceSlices::none();
-    // No heap: arrays of the most that is looked at.
+    // No heap: arrays of the most that is looked at. No struct of a strand's two, no plainer: StrandBuffers has arrays for evidence too, and
+    // of molecule_counts::CountBuffers `zeros` alone would be called, its arrays lent one by one as these are.
     let mut a_depths = [0; 1024];
     let mut a_errors = [0; 1024];
     read_numbers(a, &mut a_depths, &mut a_errors);
