@@ -10,7 +10,7 @@ use Rattle.duplex_kind.specs.Kind.{kind_of}
 use Rattle.duplex_kind.specs.declared.DuplexConsensus.{DuplexConsensus}
 use Rattle.duplex_reply.specs.Reply.{record_for}
 use Rattle.duplex_reply.specs.declared.DuplexRecord.{DuplexRecord}
-use Rattle.molecule_strand.specs.Strand.{StrandBytes, annotation_of, wrong_pattern, strand_bytes, encoded_in, strand_of}
+use Rattle.molecule_strand.specs.Strand.{StrandBytes, encoded_annotation, wrong_encoded_pattern, strand_bytes, encoded_in, strand_of}
 use Rattle.molecule_strand.specs.declared.EncodedStrand.{EncodedStrand}
 use Rattle.molecule_consensus.specs.Bytes.{seen, bytes_faults, bytes_record}
 use Rattle.c_consensus.specs.Consensus.{ConsensusBytesAs}
@@ -23,12 +23,12 @@ told present annotated = yes present && yes annotated
 -- A strand as C gives it, as far as it is looked at.
 abbrev pub strand_given : ℕ → ℕ → ℕ → List ℕ → List ℕ → List ℕ → List ℕ → List ℕ → StrandBytes
 strand_given present annotated pattern bases quals depths errors evidence =
-    seen (strand_bytes (yes present) (annotation_of (told present annotated) pattern) bases quals depths errors evidence)
+    seen (strand_bytes (yes present) (encoded_annotation (told present annotated) pattern) bases quals depths errors evidence)
 
 -- The strand, or 13 for a pattern that is looked at.
 abbrev pub strand_told : ℕ → ℕ → ℕ → List ℕ → List ℕ → List ℕ → List ℕ → List ℕ → Result StrandBytes Refusal
 strand_told present annotated pattern bases quals depths errors evidence =
-    cond (wrong_pattern (told present annotated) pattern) (Err Broken) (Ok (strand_given present annotated pattern bases quals depths errors evidence))
+    cond (wrong_encoded_pattern (told present annotated) pattern) (Err Broken) (Ok (strand_given present annotated pattern bases quals depths errors evidence))
 
 -- As the code has it.
 abbrev pub told_by : Result (Option EncodedStrand) Refusal → Result StrandBytes Refusal

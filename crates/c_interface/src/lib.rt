@@ -1,12 +1,12 @@
 // Entry points for C programs: numbers and byte slices, and answers as numbers. An array of wider numbers is passed as its bytes,
-// low byte first. This crate owns the numbers for what is there and for a pattern; the calls are c_metrics's and c_consensus's. Uses
-// refusals, duplex_kind, duplex_reply, molecule_strand, c_metrics and c_consensus.
+// low byte first. This crate owns the numbers for what is there; the calls are c_metrics's and c_consensus's. Uses lists, refusals, replies,
+// duplex_kind, duplex_metrics, duplex_reply, molecule_strand, molecule_errors, molecule_consensus, c_record, c_metrics and c_consensus.
 #![tactic(auto)]
 
 ghost use Rattle.std.specs.Prelude.{◌≡◌, ◌||◌, is_some};
 ghost use Rattle.replies.specs.Choices.{yes};
 ghost use Rattle.duplex_metrics.specs.Metrics.{input};
-ghost use Rattle.molecule_strand.specs.Strand.{encoded_in, wrong_pattern};
+ghost use Rattle.molecule_strand.specs.Strand.{wrong_encoded_pattern};
 ghost use Rattle.molecule_errors.specs.Run.{run_in};
 ghost use Rattle.c_record.specs.Lent.{bytes_out, SameBytes};
 ghost use Rattle.c_record.specs.Outputs.{record_bytes};
@@ -20,36 +20,13 @@ use duplex_kind::DuplexConsensus;
 use duplex_metrics::{Counts, MetricsInput};
 use duplex_reply::DuplexRecord;
 use molecule_consensus::EncodedMolecule;
-use molecule_strand::{EncodedStrand, annotation_of, wrong_pattern};
-use refusals::{Refusal, refuse};
+use molecule_strand::{EncodedStrand, encoded_annotation_in};
+use refusals::Refusal;
 
-// Whether a pattern is looked at: that of a strand that is there and annotated. Flags beside values are the C interface's, here, in
-// strand_given and strand_told, and in molecule_strand's annotation_of and wrong_pattern.
-fn told(present: u8, annotated: u8) -> bool
-    ensures { result ≡ told present annotated }
-{
-    (present != 0) & (annotated != 0)
-}
-
-// A strand as C gives it, as far as it is looked at: nothing of one that is not there, and evidence only with an annotation.
+// A strand as C gives it, as far as it is looked at: nothing of one that is not there, and its pattern and evidence only with an
+// annotation. Refuses by 13 a pattern that is looked at and stands for nothing. An annotation that s has is not looked at: C's flag and
+// byte tell of it. Flags beside values are the C interface's, here and in molecule_strand's functions of them.
 #[tactic(auto, unfolding(lists::specs::Part::only_if))]
-fn strand_given<'a>(
-    present: u8,
-    annotated: u8,
-    pattern: u8,
-    s: EncodedStrand<'a>,
-    evidence: &'a [u8],
-) -> Option<EncodedStrand<'a>>
-    ensures { encoded_in result ≡ strand_given present annotated pattern s.entry.bases.now s.entry.quals.now s.entry.depths.now s.entry.errors.now evidence.now }
-{
-    if present == 0 {
-        return None;
-    }
-    Some(s.annotated(annotation_of(annotated != 0, pattern), evidence))
-}
-
-// The same, or 13 where the pattern is looked at and stands for nothing. An annotation that s has is not looked at: C's flag and number
-// tell of it.
 pub fn strand_told<'a>(
     present: u8,
     annotated: u8,
@@ -59,11 +36,11 @@ pub fn strand_told<'a>(
 ) -> Result<Option<EncodedStrand<'a>>, Refusal>
     ensures { told_by result ≡ strand_told present annotated pattern s.entry.bases.now s.entry.quals.now s.entry.depths.now s.entry.errors.now evidence.now }
 {
-    refuse(
-        wrong_pattern(told(present, annotated), pattern),
-        Refusal::Broken,
-    )?;
-    Ok(strand_given(present, annotated, pattern, s, evidence))
+    if present == 0 {
+        return Ok(None);
+    }
+    let annotation = encoded_annotation_in(annotated != 0, pattern)?;
+    Ok(Some(s.annotated(annotation, evidence)))
 }
 
 // The combination of two strands, each of which may be refused.
@@ -118,7 +95,7 @@ pub extern "C" fn gedrashiw_duplex_consensus(
     b_evidence_out: &mut [u8],
 ) -> DuplexRecord
     ensures { ConsensusEntry
-        (wrong_pattern (told a_present a_annotated) a_pattern || wrong_pattern (told b_present b_annotated) b_pattern)
+        (wrong_encoded_pattern (told a_present a_annotated) a_pattern || wrong_encoded_pattern (told b_present b_annotated) b_pattern)
         (strand_given a_present a_annotated a_pattern a_bases.now a_quals.now a_depths.now a_errors.now a_evidence.now)
         (strand_given b_present b_annotated b_pattern b_bases.now b_quals.now b_depths.now b_errors.now b_evidence.now)
         (yes listed) reads.now
@@ -175,5 +152,5 @@ pub extern "C" fn gedrashiw_metrics(
         errors,
     };
     // The numbers are those that C sees.
-    metrics_of_bytes(x, out).map_or_else(|refusal| refusal.number(), |()| 0)
+    metrics_of_bytes(x, out).map_or_else(Refusal::number, |()| 0)
 }

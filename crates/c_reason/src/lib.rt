@@ -7,7 +7,7 @@
 
 ghost use Rattle.std.specs.Prelude.{◌≡◌, ◌||◌, get_or};
 ghost use Rattle.molecule_evidence.specs.Evidence.{marks_of};
-ghost use Rattle.molecule_strand.specs.Strand.{encoded_in, strand_of, wrong_pattern};
+ghost use Rattle.molecule_strand.specs.Strand.{encoded_in, strand_of, wrong_encoded_pattern};
 ghost use Rattle.duplex_kind.specs.Kind.{given_in};
 ghost use Rattle.duplex_reason.specs.Record.{shown_at};
 ghost use Rattle.rust_reason.specs.Reply.{reason_for};
@@ -20,7 +20,7 @@ use duplex_kind::{DuplexConsensus, GivenStrand, record_kind};
 use duplex_reason::{NoCallReason, Shown, reason_in};
 use lists::{front, get_or};
 use molecule_evidence::POSITION_BYTES;
-use molecule_strand::{EncodedStrand, early_refusal};
+use molecule_strand::{EncodedStrand, byte_lengths, early_refusal};
 use refusals::Refusal;
 use rust_reason::Reason;
 
@@ -49,7 +49,7 @@ fn kind_by(
 ) -> Result<Option<DuplexConsensus>, Refusal>
     ensures { result ≡ kind_by (encoded_in a.entry) (encoded_in b.entry) }
 {
-    early_refusal(a, b)?;
+    early_refusal(byte_lengths(a), byte_lengths(b))?;
     // No heap: arrays of the most that is looked at.
     let mut a_depths = [0; 1024];
     let mut b_depths = [0; 1024];
@@ -59,6 +59,8 @@ fn kind_by(
 }
 
 // The mark of a position in bytes of evidence, 0 past their end.
+// Not `get`: the product may pass a machine word, so that the position would be tested first; nor `nth` of `chunks_exact`, which walks
+// over all positions before it.
 fn mark_at(evidence: &[u8], position: usize) -> u8
     ensures { result ≡ get_or (marks_of evidence.now) position 0 }
 {
@@ -69,6 +71,8 @@ fn mark_at(evidence: &[u8], position: usize) -> u8
 }
 
 // What a strand that may be absent shows at a position; zeros past its end.
+// Not duplex_reason's `shown_at`, no plainer: that takes a strand of numbers, and for one mark those of all its evidence would be read to
+// an array.
 #[tactic(auto, unfolding(molecule_strand::specs::Strand::strand_of, byte_numbers::specs::Groups::by_group, lists::specs::Table::tabulate))]
 fn shown_at(s: Option<EncodedStrand>, position: usize) -> Shown
     ensures { result ≡ shown_at (strand_of (encoded_in s.entry)) position }
@@ -133,7 +137,7 @@ pub extern "C" fn gedrashiw_no_call_reason(
     position: usize,
 ) -> Reason
     ensures { result ≡ reason_for (bytes_reason
-        (wrong_pattern (told a_present a_annotated) a_pattern || wrong_pattern (told b_present b_annotated) b_pattern)
+        (wrong_encoded_pattern (told a_present a_annotated) a_pattern || wrong_encoded_pattern (told b_present b_annotated) b_pattern)
         (strand_given a_present a_annotated a_pattern a_bases.now a_quals.now a_depths.now a_errors.now a_evidence.now)
         (strand_given b_present b_annotated b_pattern b_bases.now b_quals.now b_depths.now b_errors.now b_evidence.now)
         position) }

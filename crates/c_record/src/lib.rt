@@ -65,25 +65,20 @@ fn written_of(
     }
 }
 
-// How many positions outputs of so many bytes hold, of evidence where it is written.
-fn positions_in(
-    w: Written,
-    bases: usize,
-    quals: usize,
-    errors: usize,
-    a_evidence: usize,
-    b_evidence: usize,
-) -> RecordLengths
-    ensures { result ≡ positions_in w bases quals errors a_evidence b_evidence }
-{
-    let a = EvidenceLengths::of(a_evidence / POSITION_BYTES);
-    let b = EvidenceLengths::of(b_evidence / POSITION_BYTES);
-    RecordLengths {
-        bases,
-        quals,
-        errors: errors / 2,
-        a: w.first.and(Some(a)),
-        b: w.second.and(Some(b)),
+impl ByteOutputs<'_> {
+    // How many positions they hold, of evidence where it is written.
+    fn positions(&self, w: Written) -> RecordLengths
+        ensures { result ≡ positions_in w (length self.now.bases.now) (length self.now.quals.now) (length self.now.errors.now) (length self.now.a_evidence.now) (length self.now.b_evidence.now) }
+    {
+        let a = EvidenceLengths::of(self.a_evidence.len() / POSITION_BYTES);
+        let b = EvidenceLengths::of(self.b_evidence.len() / POSITION_BYTES);
+        RecordLengths {
+            bases: self.bases.len(),
+            quals: self.quals.len(),
+            errors: self.errors.len() / 2,
+            a: w.first.and(Some(a)),
+            b: w.second.and(Some(b)),
+        }
     }
 }
 
@@ -114,15 +109,7 @@ pub fn write_record<E: From<Refusal>>(
 {
     let made = made?;
     let w = written_of(a, b, made);
-    let room = positions_in(
-        w,
-        out.bases.len(),
-        out.quals.len(),
-        out.errors.len(),
-        out.a_evidence.len(),
-        out.b_evidence.len(),
-    );
-    let short = record_too_short(w.positions, room);
+    let short = record_too_short(w.positions, out.positions(w));
     refuse(short, Refusal::OutputTooShort)?;
     copy(front(arrays.bases, w.positions), out.bases);
     copy(front(arrays.quals, w.positions), out.quals);

@@ -17,6 +17,7 @@ use Rattle.methylation.specs.Arrays.{EvidenceArrays, evidence_arrays}
 use Rattle.byte_numbers.specs.Bytes.{bytes16}
 use Rattle.byte_numbers.specs.Groups.{by_group}
 use Rattle.byte_numbers.proofs.Groups.{all_fit, read_front}
+use Rattle.molecule_evidence.specs.Buffers.{zero_evidence}
 use Rattle.molecule_evidence.specs.Evidence.{mark_in, count_in, marks_of, unconverted_of, converted_of}
 use Rattle.methylation_evidence.specs.Counts.{tag_counts, counts_refused, summed_counts, summed_refused}
 use Rattle.methylation_evidence.proofs.Counts.{counts_length, summed_length}
@@ -30,15 +31,20 @@ read : (f : List ℕ → ℕ) (bytes : List ℕ) {L : List ℕ} → length bytes
 read f bytes few e = read_front 9 f bytes zeros few e
 
 pub evidence_read :
-    (bytes : List ℕ) {marks unconverted converted : List ℕ} {places : ℕ} {e : EvidenceArrays}
+    (bytes : List ℕ) {before : EvidenceArrays} {marks unconverted converted : List ℕ} {places : ℕ} {e : EvidenceArrays}
     → length bytes / 9 ≤ 1024
-    → marks ≡ put (take (length zeros) (marks_of bytes)) zeros
-    → unconverted ≡ put (take (length zeros) (unconverted_of bytes)) zeros
-    → converted ≡ put (take (length zeros) (converted_of bytes)) zeros
+    → before ≡ zero_evidence
+    → marks ≡ put (take (length before.marks) (marks_of bytes)) before.marks
+    → unconverted ≡ put (take (length before.unconverted) (unconverted_of bytes)) before.unconverted
+    → converted ≡ put (take (length before.converted) (converted_of bytes)) before.converted
     → places ≡ length bytes / 9
     → e ≡ evidence_arrays (take places marks) (take places unconverted) (take places converted)
     → e ≡ evidence_arrays (marks_of bytes) (unconverted_of bytes) (converted_of bytes)
-evidence_read bytes few m u c places_is e = e ∙ rw (places_is, read mark_in bytes few m, read (count_in 1) bytes few u, read (count_in 5) bytes few c)
+evidence_read bytes few z m u c places_is e =
+    let marks_are = rw z at m in
+    let unconverted_are = rw z at u in
+    let converted_are = rw z at c in
+    e ∙ rw (places_is, read mark_in bytes few marks_are, read (count_in 1) bytes few unconverted_are, read (count_in 5) bytes few converted_are)
 
 -- So many numbers at its front, written as bytes where there is room.
 as_bytes :

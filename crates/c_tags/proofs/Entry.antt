@@ -14,7 +14,6 @@ use native.Mathlib.Omega.{arith}
 use lib.ListN.{length}
 use Rattle.std.proofs.Common.{Option, Some, None, Result, Ok, Err}
 use Rattle.std.specs.Option.{option_map_or}
-use Rattle.lists.specs.Output.{put}
 use Rattle.lists.specs.Part.{only_if}
 use Rattle.lists.specs.Table.{tabulate}
 use Rattle.refusals.specs.declared.Refusal.{Refusal}
@@ -33,24 +32,24 @@ use Rattle.methylation_evidence.specs.Counts.{tag_counts, summed_counts}
 use Rattle.methylation.specs.Annotation as held
 use Rattle.methylation.specs.Arrays.{EvidenceArrays, evidence_arrays}
 use Rattle.methylation.specs.declared.MethylationAnnotation.{MethylationAnnotation}
-use Rattle.molecule_strand.specs.Strand.{pattern_held, bytes_held}
+use Rattle.molecule_strand.specs.Strand.{pattern_held, bytes_held, lengths_held}
 use Rattle.molecule_strand.specs.declared.EncodedAnnotation.{EncodedAnnotation}
 use Rattle.duplex_texts.specs.Texts.{TextArrays, strand_in}
 use Rattle.duplex_texts.specs.Outputs.{strand_lengths, DuplexTextsAs}
 use Rattle.duplex_texts.specs.Parts.{AsLong}
 use Rattle.duplex_texts.specs.declared.TextLengths.{TextLengths}
 use Rattle.duplex_texts.proofs.Refused.{as_long}
-use Rattle.duplex_tags.specs.Tags.{KindArrays, CountArrays, counts_of, kind_counts, duplex_counts}
-use Rattle.duplex_tags.specs.Outputs.{kind_lengths, LeavesCounts}
+use Rattle.duplex_tags.specs.Tags.{KindArrays, kind_arrays, CountArrays, counts_of, kind_counts, duplex_counts}
+use Rattle.duplex_tags.specs.Outputs.{kind_lengths, LeavesKind, LeavesCounts}
 use Rattle.duplex_tags.specs.Parts.{counts_refused, Countable}
 use Rattle.duplex_tags.specs.declared.KindLengths.{KindLengths}
 use Rattle.duplex_tags.proofs.Counts.{countable}
 use Rattle.duplex_tags.proofs.Refused.{by_own, met_first, passed_first, by_texts, enough_room}
 use Rattle.rust_methylation.specs.Entries.{DuplexArrays, duplex_arrays}
 use Rattle.c_tags.specs.Tags.{each_kind, each, TagsBytesAs}
-use Rattle.c_tags.specs.Parts.{strand_seen, lengths_seen, counts_in}
+use Rattle.c_tags.specs.Parts.{strand_seen, counts_in}
 
-same_lengths : (e : Option EncodedAnnotation) → lengths_seen e ≡ strand_lengths (strand_seen e)
+same_lengths : (e : Option EncodedAnnotation) → lengths_held e ≡ strand_lengths (strand_seen e)
 same_lengths e = rw (length_by_group 9 mark_in (bytes_held e), length_by_group 9 (count_in 1) (bytes_held e), length_by_group 9 (count_in 5) (bytes_held e))
 
 same_kind : (k : KindArrays) → counts_in (kind_lengths k) ≡ kind_lengths (each_kind words16 k)
@@ -100,8 +99,8 @@ module _ (mode : MethylationMode) (bases : List ℕ) (a b : Option EncodedAnnota
 
   pub same_test :
       {of_a of_b : Option EvidenceLengths} {u c : KindLengths} {r : Result (Unit {0}) Refusal}
-      → of_a ≡ lengths_seen a
-      → of_b ≡ lengths_seen b
+      → of_a ≡ lengths_held a
+      → of_b ≡ lengths_held b
       → u ≡ counts_in (kind_lengths before.counts.unconverted)
       → c ≡ counts_in (kind_lengths before.counts.converted)
       → r ≡ answer (counts_refused (length bases) of_a of_b u c) tt
@@ -187,20 +186,13 @@ module _ (mode : MethylationMode) (bases : List ℕ) (a b : Option EncodedAnnota
       → ac ≡ converted_of (bytes_held a)
       → bu ≡ unconverted_of (bytes_held b)
       → bc ≡ converted_of (bytes_held b)
-      → now.unconverted.a ≡ put (bytes16 (tag_counts au)) before.counts.unconverted.a
-      → now.converted.a ≡ put (bytes16 (tag_counts ac)) before.counts.converted.a
-      → now.unconverted.b ≡ put (bytes16 (tag_counts bu)) before.counts.unconverted.b
-      → now.converted.b ≡ put (bytes16 (tag_counts bc)) before.counts.converted.b
-      → now.unconverted.both ≡ put (bytes16 (summed_counts (length bases) au bu)) before.counts.unconverted.both
-      → now.converted.both ≡ put (bytes16 (summed_counts (length bases) ac bc)) before.counts.converted.both
+      → LeavesKind None (each_kind bytes16 (kind_arrays (tag_counts au) (tag_counts bu) (summed_counts (length bases) au bu))) before.counts.unconverted now.unconverted
+      → LeavesKind None (each_kind bytes16 (kind_arrays (tag_counts ac) (tag_counts bc) (summed_counts (length bases) ac bc))) before.counts.converted now.converted
       → LeavesCounts None (each bytes16 (duplex_counts (length bases) (strand_seen a) (strand_seen b))) before.counts now
   unfolding kind_counts
-  left_counts now au_is ac_is bu_is bc_is ua ca ub cb u c =
+  left_counts now au_is ac_is bu_is bc_is u c =
       let au = au_is ∙ own_counts 1 a in
       let ac = ac_is ∙ own_counts 5 a in
       let bu = bu_is ∙ own_counts 1 b in
       let bc = bc_is ∙ own_counts 5 b in
-      record {
-        unconverted = record { a = rw au at ua; b = rw bu at ub; both = rw (au, bu) at u };
-        converted = record { a = rw ac at ca; b = rw bc at cb; both = rw (ac, bc) at c };
-      }
+      record { unconverted = rw (au, bu) at u; converted = rw (ac, bc) at c }

@@ -1,25 +1,20 @@
 -- What the parts of `gedrashiw_methylation_tags` promise each other.
-use Rattle.std.specs.Prelude.{ℕ, ◌/◌, ◌≡◌, true, false, Option, Some, Result, Ok, Err, length}
-use Rattle.std.specs.Option.{option_and}
+use Rattle.std.specs.Prelude.{ℕ, ◌/◌, ◌≡◌, true, false, Option, Result, Ok, Err, List}
 use Rattle.refusals.specs.declared.Refusal.{Refusal}
 use Rattle.refusals.specs.declared.Refusal.TheVariants.{Broken}
-use Rattle.methylation.specs.Arrays.{evidence_of_length}
 use Rattle.methylation.specs.Choices.{mode_of}
-use Rattle.methylation.specs.declared.EvidenceLengths.{EvidenceLengths}
 use Rattle.molecule_strand.specs.Strand.{pattern_held, bytes_held}
 use Rattle.molecule_strand.specs.declared.EncodedAnnotation.{EncodedAnnotation}
 use Rattle.duplex_texts.specs.Texts.{Strand}
+use Rattle.duplex_texts.specs.declared.TextLengths.{TextLengths}
 use Rattle.duplex_tags.specs.declared.KindLengths.{KindLengths}
-use Rattle.c_tags.specs.Tags.{AnnotationBytes, is_broken, wrong_given, strand_of, strand_given}
+use Rattle.rust_methylation.specs.Entries.{DuplexArrays}
+use Rattle.c_tags.specs.Tags.{AnnotationBytes, is_broken, wrong_given, strand_of, strand_given, TagsBytesAs}
 use Rattle.c_tags.specs.declared.Given.{Given}
 
 -- The strand that an annotation with its bytes stands for.
 abbrev pub strand_seen : Option EncodedAnnotation → Strand
 strand_seen s = strand_of (pattern_held s) (bytes_held s)
-
--- How long the evidence is, by its whole positions, where there is an annotation.
-abbrev pub lengths_seen : Option EncodedAnnotation → Option EvidenceLengths
-lengths_seen s = option_and (pattern_held s) (Some (evidence_of_length (length (bytes_held s) / 9)))
 
 -- What is read of a strand: 13, or the strand that is given.
 abbrev pub EvidenceReadAs : AnnotationBytes → Result (Option EncodedAnnotation) Refusal → Type 0
@@ -30,6 +25,11 @@ EvidenceReadAs s (Err row) = (is_broken s ≡ true) × (row ≡ Broken)
 abbrev pub ReadAs : AnnotationBytes → AnnotationBytes → ℕ → Result Given Refusal → Type 0
 ReadAs a b mode (Ok g) = (wrong_given a b mode ≡ false) × (strand_seen g.a ≡ strand_given a) × (strand_seen g.b ≡ strand_given b) × (g.mode ≡ mode_of mode)
 ReadAs a b mode (Err row) = (wrong_given a b mode ≡ true) × (row ≡ Broken)
+
+-- What is answered and left of a call that was read so: what refuses it changes nothing.
+abbrev pub TagsReadAs : Result Given Refusal → List ℕ → DuplexArrays → DuplexArrays → Result TextLengths Refusal → Type 0
+TagsReadAs (Ok g) bases before now told = TagsBytesAs g.mode bases (strand_seen g.a) (strand_seen g.b) before now told
+TagsReadAs (Err row) bases before now told = (told ≡ Err row) × (now ≡ before)
 
 -- How many counts outputs of so many bytes hold.
 abbrev pub counts_in : KindLengths → KindLengths

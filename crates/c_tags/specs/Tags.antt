@@ -12,7 +12,7 @@ use Rattle.replies.specs.Choices.{yes}
 use Rattle.replies.specs.Replies.{RepliedAs}
 use Rattle.byte_numbers.specs.Bytes.{words16, bytes16}
 use Rattle.molecule_evidence.specs.Evidence.{marks_of, unconverted_of, converted_of}
-use Rattle.molecule_strand.specs.Strand.{annotation_of, wrong_pattern}
+use Rattle.molecule_strand.specs.Strand.{encoded_annotation, wrong_encoded_pattern}
 use Rattle.duplex_texts.specs.Texts.{Strand, strand, duplex_texts}
 use Rattle.duplex_texts.specs.Outputs.{text_lengths, LeavesTexts}
 use Rattle.duplex_texts.specs.declared.TextLengths.{TextLengths}
@@ -32,7 +32,7 @@ annotation_bytes annotated pattern evidence = record { annotated = annotated; pa
 
 -- Row 13's condition for it: a pattern above 1, or bytes that are not whole positions. It counts where there is an annotation.
 abbrev pub broken_in : Bool → ℕ → ℕ → Bool
-broken_in annotated pattern bytes = wrong_pattern annotated pattern || (annotated && not (eqb (bytes % 9) 0))
+broken_in annotated pattern bytes = wrong_encoded_pattern annotated pattern || (annotated && not (eqb (bytes % 9) 0))
 
 abbrev pub is_broken : AnnotationBytes → Bool
 is_broken s = broken_in (yes s.annotated) s.pattern (length s.evidence)
@@ -47,7 +47,7 @@ strand_of annotation bytes = strand annotation (marks_of bytes) (unconverted_of 
 
 -- As far as it is looked at.
 abbrev pub strand_given : AnnotationBytes → Strand
-strand_given s = strand_of (annotation_of (yes s.annotated) s.pattern) (only_if (yes s.annotated) s.evidence)
+strand_given s = strand_of (encoded_annotation (yes s.annotated) s.pattern) (only_if (yes s.annotated) s.evidence)
 
 -- Each array of counts by itself: as bytes, and as the numbers that some bytes are. Outputs of so many bytes hold so many numbers.
 abbrev pub each_kind : (List ℕ → List ℕ) → KindArrays → KindArrays

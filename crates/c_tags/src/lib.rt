@@ -4,30 +4,29 @@
 // duplex_texts, duplex_tags and rust_methylation.
 #![tactic(auto)]
 
-ghost use Rattle.std.specs.Prelude.{◌≡◌, ◌/◌, ◌≤◌, length};
+ghost use Rattle.std.specs.Prelude.{◌≡◌, ◌/◌, ◌≤◌, None, length};
 ghost use Rattle.lists.specs.Output.{put};
 ghost use Rattle.byte_numbers.specs.Bytes.{bytes16};
-ghost use Rattle.molecule_strand.specs.Strand.{pattern_held, bytes_held};
 ghost use Rattle.methylation_evidence.specs.Counts.{tag_counts, summed_counts};
 ghost use Rattle.duplex_texts.specs.Lent.{texts_out, SameTexts};
 ghost use Rattle.duplex_texts.specs.Texts.{text_arrays};
-ghost use Rattle.duplex_tags.specs.Lent.{counts_out, SameKind};
-ghost use Rattle.duplex_tags.specs.Tags.{count_arrays};
+ghost use Rattle.duplex_tags.specs.Lent.{kind_out, counts_out, SameKind};
+ghost use Rattle.duplex_tags.specs.Tags.{kind_arrays, count_arrays};
+ghost use Rattle.duplex_tags.specs.Outputs.{LeavesKind};
 ghost use Rattle.duplex_tags.specs.Parts.{Countable};
 ghost use Rattle.rust_methylation.specs.Entries.{duplex_arrays};
-ghost use Rattle.c_tags.specs.Tags.{annotation_bytes, TagsBytesAs, TagsEntry};
-ghost use Rattle.c_tags.specs.Parts.{strand_seen, lengths_seen, EvidenceReadAs, ReadAs, counts_in};
+ghost use Rattle.c_tags.specs.Tags.{annotation_bytes, each_kind, TagsEntry};
+ghost use Rattle.c_tags.specs.Parts.{TagsReadAs, EvidenceReadAs, ReadAs, counts_in};
 
 use duplex_tags::{KindLengths, KindOutputs, counts_refusal};
 use duplex_texts::{TextLengths, TextOutputs, duplex_texts};
 use lists::front;
-use methylation::{
-    ConversionPattern, EvidenceLengths, EvidenceOutputs, EvidenceSlices, MethylationAnnotation,
-    MethylationMode,
-};
+use methylation::{MethylationAnnotation, MethylationMode};
 use methylation_evidence::{summed_counts, tag_counts};
-use molecule_evidence::{POSITION_BYTES, read_evidence};
-use molecule_strand::{EncodedAnnotation, pattern_of, wrong_pattern};
+use molecule_evidence::{EvidenceBuffers, POSITION_BYTES};
+use molecule_strand::{
+    EncodedAnnotation, bytes_held, encoded_annotation_in, lengths_held, pattern_held, places_held,
+};
 use refusals::{Refusal, refuse};
 use rust_methylation::DuplexTagsReply;
 
@@ -41,41 +40,11 @@ fn read_annotation<'a>(
 ) -> Result<Option<EncodedAnnotation<'a>>, Refusal>
     ensures { EvidenceReadAs (annotation_bytes annotated pattern evidence.now) result }
 {
-    if annotated == 0 {
-        return Ok(None);
-    }
-    let broken = wrong_pattern(true, pattern) | (evidence.len() % POSITION_BYTES != 0);
+    let annotated = annotated != 0;
+    let pattern = encoded_annotation_in(annotated, pattern)?;
+    let broken = annotated & (evidence.len() % POSITION_BYTES != 0);
     refuse(broken, Refusal::Broken)?;
-    let pattern = pattern_of(pattern);
-    Ok(Some(EncodedAnnotation { pattern, evidence }))
-}
-
-// The pattern of an annotation, where there is one.
-fn pattern_in(s: Option<EncodedAnnotation>) -> Option<ConversionPattern>
-    ensures { result ≡ pattern_held s.entry }
-{
-    s.map(|annotation| annotation.pattern)
-}
-
-// The bytes of its evidence; without an annotation none.
-fn bytes_of<'a>(s: Option<EncodedAnnotation<'a>>) -> &'a [u8]
-    ensures { result.now ≡ bytes_held s.entry }
-{
-    s.map_or(&[], |annotation| annotation.evidence)
-}
-
-// How many positions they are.
-fn places(s: Option<EncodedAnnotation>) -> usize
-    ensures { result ≡ length (bytes_held s.entry) / 9 }
-{
-    bytes_of(s).len() / POSITION_BYTES
-}
-
-// How long its evidence is, where there is an annotation.
-fn lengths_of(s: Option<EncodedAnnotation>) -> Option<EvidenceLengths>
-    ensures { result ≡ lengths_seen s.entry }
-{
-    s.map(|annotation| EvidenceLengths::of(annotation.evidence.len() / POSITION_BYTES))
+    Ok(EncodedAnnotation::of(pattern, evidence))
 }
 
 // What is given for a call: its strands and the chemistry.
@@ -138,81 +107,66 @@ fn write_summed(positions: usize, a: &[u32], b: &[u32], out: &mut [u8])
     byte_numbers::write(front(&sums, positions), out);
 }
 
-// A record's tags, from its bases and the evidence of its strands. Refuses by 7, 8, 12. No struct of the two kinds of counts: who makes
-// one that nests lent structs learns nothing of what their slices hold.
+// Each strand's counts of one kind, and their sums over so many positions.
+fn write_counts(positions: usize, a: &[u32], b: &[u32], out: &mut KindOutputs<'_, u8>)
+    requires of_a { Countable (length a.now) (length out.old.a.now / 2) }
+    requires of_b { Countable (length b.now) (length out.old.b.now / 2) }
+    requires of_both { Countable positions (length out.old.both.now / 2) }
+    ensures same_references { SameKind out.old out.new }
+    ensures written { LeavesKind None
+        (each_kind bytes16 (kind_arrays (tag_counts a.now) (tag_counts b.now) (summed_counts positions a.now b.now)))
+        (kind_out out.old)
+        (kind_out out.new) }
+{
+    write_held(a, out.a);
+    write_held(b, out.b);
+    write_summed(positions, a, b, out.both);
+}
+
+// A record's tags, from its bases and what was read of its strands. Refuses as that did, then by 7, 8, 12. No struct of the two kinds of
+// counts: who makes one that nests lent structs learns nothing of what their slices hold.
 fn write_tags(
     bases: &[u8],
-    a: Option<EncodedAnnotation>,
-    b: Option<EncodedAnnotation>,
-    mode: MethylationMode,
+    given: Result<Given, Refusal>,
     texts: &mut TextOutputs<'_>,
     unconverted: &mut KindOutputs<'_, u8>,
     converted: &mut KindOutputs<'_, u8>,
 ) -> Result<TextLengths, Refusal>
     ensures same_references { SameTexts texts.old texts.new × SameKind unconverted.old unconverted.new × SameKind converted.old converted.new }
-    ensures tagged { TagsBytesAs mode bases.now (strand_seen a.entry) (strand_seen b.entry)
+    ensures tagged { TagsReadAs given.entry bases.now
         (duplex_arrays (texts_out texts.old) (counts_out unconverted.old converted.old))
         (duplex_arrays (texts_out texts.new) (counts_out unconverted.new converted.new))
         result }
 {
     let n = bases.len();
+    let Given { a, b, mode } = given?;
     counts_refusal(
         n,
-        lengths_of(a),
-        lengths_of(b),
+        lengths_held(a),
+        lengths_held(b),
         counts_in(unconverted.lengths()),
         counts_in(converted.lengths()),
     )?;
-    // No heap: arrays of the most that is looked at. No struct of three: it would be taken apart for the outputs and for the slices.
-    let mut a_marks = [0; 1024];
-    let mut a_unconverted = [0; 1024];
-    let mut a_converted = [0; 1024];
-    read_evidence(
-        bytes_of(a),
-        &mut EvidenceOutputs {
-            marks: &mut a_marks,
-            unconverted: &mut a_unconverted,
-            converted: &mut a_converted,
-        },
-    );
-    let mut b_marks = [0; 1024];
-    let mut b_unconverted = [0; 1024];
-    let mut b_converted = [0; 1024];
-    read_evidence(
-        bytes_of(b),
-        &mut EvidenceOutputs {
-            marks: &mut b_marks,
-            unconverted: &mut b_unconverted,
-            converted: &mut b_converted,
-        },
-    );
-    let a_read = EvidenceSlices::new(&a_marks, &a_unconverted, &a_converted);
-    let b_read = EvidenceSlices::new(&b_marks, &b_unconverted, &b_converted);
-    let a_evidence = a_read.front(places(a));
-    let b_evidence = b_read.front(places(b));
+    let mut a_read = EvidenceBuffers::zeros();
+    a_read.read(bytes_held(a));
+    let mut b_read = EvidenceBuffers::zeros();
+    b_read.read(bytes_held(b));
+    let a_evidence = a_read.slices().front(places_held(a));
+    let b_evidence = b_read.slices().front(places_held(b));
     let lengths = duplex_texts(
         bases,
-        MethylationAnnotation::of(pattern_in(a), a_evidence),
-        MethylationAnnotation::of(pattern_in(b), b_evidence),
+        MethylationAnnotation::of(pattern_held(a), a_evidence),
+        MethylationAnnotation::of(pattern_held(b), b_evidence),
         mode,
         texts,
     )?;
-    write_held(a_evidence.unconverted, unconverted.a);
-    write_held(a_evidence.converted, converted.a);
-    write_held(b_evidence.unconverted, unconverted.b);
-    write_held(b_evidence.converted, converted.b);
-    write_summed(
+    write_counts(
         n,
         a_evidence.unconverted,
         b_evidence.unconverted,
-        unconverted.both,
+        unconverted,
     );
-    write_summed(
-        n,
-        a_evidence.converted,
-        b_evidence.converted,
-        converted.both,
-    );
+    write_counts(n, a_evidence.converted, b_evidence.converted, converted);
     Ok(lengths)
 }
 
@@ -280,18 +234,5 @@ pub extern "C" fn gedrashiw_methylation_tags(
         b_evidence,
         mode,
     );
-    // No `?`: its function would have this whole contract once more. A closure was tried (rust_padded): of outputs that it takes along
-    // nothing is known where it is not called.
-    match given {
-        Ok(given) => DuplexTagsReply::from(write_tags(
-            bases,
-            given.a,
-            given.b,
-            given.mode,
-            &mut texts,
-            &mut unconverted,
-            &mut converted,
-        )),
-        Err(refusal) => DuplexTagsReply::from(refusal),
-    }
+    DuplexTagsReply::from(write_tags(bases, given, &mut texts, &mut unconverted, &mut converted))
 }

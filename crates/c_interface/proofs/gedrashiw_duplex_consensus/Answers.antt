@@ -2,7 +2,7 @@
 -- nothing.
 use Rattle.std.proofs.Common.{rules}
 use Rattle.replies.specs.Choices.{yes}
-use Rattle.molecule_strand.specs.Strand.{strand_bytes, annotation_of}
+use Rattle.molecule_strand.specs.Strand.{strand_bytes, encoded_annotation}
 use Rattle.c_interface.specs.Entry.{told}
 use Rattle.c_interface.proofs.Entry.{entry_as}
 use Rattle.c_interface.proofs.gedrashiw_duplex_consensus.Goals as goal
@@ -11,8 +11,8 @@ pub returns : goal.returns
 returns c =
     let g = c.args in
     entry_as _ _
-    (strand_bytes (yes g.a_present) (annotation_of (told g.a_present g.a_annotated) g.a_pattern) g.a_bases.now g.a_quals.now g.a_depths.now g.a_errors.now g.a_evidence.now)
-    (strand_bytes (yes g.b_present) (annotation_of (told g.b_present g.b_annotated) g.b_pattern) g.b_bases.now g.b_quals.now g.b_depths.now g.b_errors.now g.b_evidence.now)
+    (strand_bytes (yes g.a_present) (encoded_annotation (told g.a_present g.a_annotated) g.a_pattern) g.a_bases.now g.a_quals.now g.a_depths.now g.a_errors.now g.a_evidence.now)
+    (strand_bytes (yes g.b_present) (encoded_annotation (told g.b_present g.b_annotated) g.b_pattern) g.b_bases.now g.b_quals.now g.b_depths.now g.b_errors.now g.b_evidence.now)
     (yes g.listed) g.reads c.consensus.result
     (rw (c.new-a.ensures.bases, c.new-a.ensures.quals, c.new-a.ensures.depths, c.new-a.ensures.errors) at c.strand_told.ensures)
     (rw (c.new-b.ensures.bases, c.new-b.ensures.quals, c.new-b.ensures.depths, c.new-b.ensures.errors) at c.strand_told-2.ensures)

@@ -13,14 +13,14 @@ pub returns-in_err-refuse-clause-written : goal.returns-in_err-refuse-clause-wri
 returns-in_err-refuse-clause-written g c =
     let p = err_from_is_err_and c.from_residual-in_err-refuse.result c.from_residual-in_err-refuse.ensures.1 in
     let e = sym c.refuse.ensures ∙ c.in_err-refuse.was in
-    rw (c.in_ok-made.was, p.1) (turned_down _ _ _ _ _ (rw (c.record_too_short-short.ensures, c.positions_in-room.ensures, c.written_of-w.ensures) at e) p.2)
+    rw (c.in_ok-made.was, p.1) (turned_down _ _ _ _ _ (rw (c.record_too_short-short.ensures, c.positions.ensures, c.written_of-w.ensures) at e) p.2)
 
 pub returns-clause-written : goal.returns-clause-written
 returns-clause-written g c =
     let a = c.args in
     let e = sym c.refuse.ensures ∙ c.in_ok-refuse.was in
     rw c.in_ok-made.was
-    (passed_on _ _ _ _ _ (rw (c.record_too_short-short.ensures, c.positions_in-room.ensures, c.written_of-w.ensures) at e)
+    (passed_on _ _ _ _ _ (rw (c.record_too_short-short.ensures, c.positions.ensures, c.written_of-w.ensures) at e)
     record {
       bases = c.copy.ensures ∙ ap (λ (l : List ℕ). put (take (length a.out.now.bases.now) l) a.out.now.bases.now) (rw c.written_of-w.ensures at c.front.ensures);
       quals = c.copy-2.ensures ∙ ap (λ (l : List ℕ). put (take (length a.out.now.quals.now) l) a.out.now.quals.now) (rw c.written_of-w.ensures at c.front-2.ensures);

@@ -1,11 +1,12 @@
--- `c_tags::write_tags` meets its contract: refused by the library's first test or by the texts, or all is written. Assumes nothing.
+-- `c_tags::write_tags` meets its contract: refused by the library's first test or by the texts, or all is written; what refuses what was
+-- read changes nothing. Assumes nothing.
 use mathlib.Core.Path.{◌≡◌, ap, ◌∙◌}
 use Prim.Native.Nat.{◌/◌, ◌≤◌}
 use lib.ListN.{length}
-use Rattle.std.proofs.Common.{rules}
 use Rattle.std.proofs.lemmas.Result.{err_from_is_err_and}
 use Rattle.refusals.specs.Outcome.{answer}
-use Rattle.methylation.specs.Arrays.{EvidenceArrays, evidence_arrays, evidence_in}
+use Rattle.methylation.specs.Arrays.{EvidenceArrays, evidence_arrays, evidence_fronts, evidence_in}
+use Rattle.molecule_evidence.specs.Buffers.{buffers_in}
 use Rattle.molecule_evidence.specs.Evidence.{marks_of, unconverted_of, converted_of}
 use Rattle.molecule_strand.specs.Strand.{bytes_held}
 use Rattle.duplex_texts.specs.Lent.{texts_out}
@@ -23,96 +24,98 @@ module _ (c : After-counts_refusal) where
   abbrev before : DuplexArrays
   before = duplex_arrays (texts_out c.args.texts.now) (counts_out c.args.unconverted.now c.args.converted.now)
 
-  told : answer {A = Unit {0}} (own c.args.mode c.args.bases.now c.args.a c.args.b before) tt ≡ c.counts_refusal.result
-  told = same_test c.args.mode c.args.bases.now c.args.a c.args.b before c.lengths_of.ensures c.lengths_of-2.ensures (c.counts_in.ensures ∙ ap counts_in c.lengths.ensures) (c.counts_in-2.ensures ∙ ap counts_in c.lengths-2.ensures) c.counts_refusal.ensures
+  told : answer {A = Unit {0}} (own c.in_ok-a.field-0.mode c.args.bases.now c.in_ok-a.field-0.a c.in_ok-a.field-0.b before) tt ≡ c.counts_refusal.result
+  told = same_test c.in_ok-a.field-0.mode c.args.bases.now c.in_ok-a.field-0.a c.in_ok-a.field-0.b before c.lengths_held.ensures c.lengths_held-2.ensures (c.counts_in.ensures ∙ ap counts_in c.lengths.ensures) (c.counts_in-2.ensures ∙ ap counts_in c.lengths-2.ensures) c.counts_refusal.ensures
 
 -- What is read, all of it, where that test refuses nothing.
-module _ (c : After-of-2) (few : (length (bytes_held c.args.a) / 9 ≤ 1024) × (length (bytes_held c.args.b) / 9 ≤ 1024)) where
-  a_read : evidence_in c.front-a_evidence.result ≡ evidence_arrays (marks_of (bytes_held c.args.a)) (unconverted_of (bytes_held c.args.a)) (converted_of (bytes_held c.args.a))
+module _ (c : After-of-2) (few : (length (bytes_held c.in_ok-a.field-0.a) / 9 ≤ 1024) × (length (bytes_held c.in_ok-a.field-0.b) / 9 ≤ 1024)) where
+  a_read : evidence_in c.front-a_evidence.result ≡ evidence_arrays (marks_of (bytes_held c.in_ok-a.field-0.a)) (unconverted_of (bytes_held c.in_ok-a.field-0.a)) (converted_of (bytes_held c.in_ok-a.field-0.a))
   a_read =
-      let s = rw c.bytes_of.ensures at c.read_evidence.ensures in
-      evidence_read (bytes_held c.args.a) {e = evidence_in c.front-a_evidence.result} few.0 s.marks s.unconverted s.converted c.places.ensures (search (rules, c.front-a_evidence.ensures))
+      let s = rw c.bytes_held.ensures at c.read.ensures in
+      evidence_read (bytes_held c.in_ok-a.field-0.a) {before = buffers_in c.zeros-a_read.result} {e = evidence_in c.front-a_evidence.result} few.0 c.zeros-a_read.ensures s.marks s.unconverted s.converted c.places_held.ensures (c.front-a_evidence.ensures ∙ ap (evidence_fronts c.places_held.result) c.slices.ensures)
 
-  b_read : evidence_in c.front-b_evidence.result ≡ evidence_arrays (marks_of (bytes_held c.args.b)) (unconverted_of (bytes_held c.args.b)) (converted_of (bytes_held c.args.b))
+  b_read : evidence_in c.front-b_evidence.result ≡ evidence_arrays (marks_of (bytes_held c.in_ok-a.field-0.b)) (unconverted_of (bytes_held c.in_ok-a.field-0.b)) (converted_of (bytes_held c.in_ok-a.field-0.b))
   b_read =
-      let s = rw c.bytes_of-2.ensures at c.read_evidence-2.ensures in
-      evidence_read (bytes_held c.args.b) {e = evidence_in c.front-b_evidence.result} few.1 s.marks s.unconverted s.converted c.places-2.ensures (search (rules, c.front-b_evidence.ensures))
+      let s = rw c.bytes_held-2.ensures at c.read-2.ensures in
+      evidence_read (bytes_held c.in_ok-a.field-0.b) {before = buffers_in c.zeros-b_read.result} {e = evidence_in c.front-b_evidence.result} few.1 c.zeros-b_read.ensures s.marks s.unconverted s.converted c.places_held-2.ensures (c.front-b_evidence.ensures ∙ ap (evidence_fronts c.places_held-2.result) c.slices-2.ensures)
 
-  a_lent : strand_in c.of.result ≡ strand_seen c.args.a
-  a_lent = lent_as c.args.a c.of.result c.pattern_in.ensures c.of.ensures.pattern c.of.ensures.evidence a_read
+  a_lent : strand_in c.of.result ≡ strand_seen c.in_ok-a.field-0.a
+  a_lent = lent_as c.in_ok-a.field-0.a c.of.result c.pattern_held.ensures c.of.ensures.pattern c.of.ensures.evidence a_read
 
-  b_lent : strand_in c.of-2.result ≡ strand_seen c.args.b
-  b_lent = lent_as c.args.b c.of-2.result c.pattern_in-2.ensures c.of-2.ensures.pattern c.of-2.ensures.evidence b_read
+  b_lent : strand_in c.of-2.result ≡ strand_seen c.in_ok-a.field-0.b
+  b_lent = lent_as c.in_ok-a.field-0.b c.of-2.result c.pattern_held-2.ensures c.of-2.ensures.pattern c.of-2.ensures.evidence b_read
 
 pub returns-in_err-counts_refusal-clause-tagged : goal.returns-in_err-counts_refusal-clause-tagged
 returns-in_err-counts_refusal-clause-tagged c =
     let test = (goal.at.returns-in_err-counts_refusal-clause-tagged c).After-counts_refusal in
-    let p = err_from_is_err_and c.from_residual.result c.from_residual.ensures.1 in
-    rw (p.1, p.2) (early c.args.mode c.args.bases.now c.args.a c.args.b (before test) (told test ∙ c.in_err-counts_refusal.was))
+    let p = err_from_is_err_and c.from_residual-in_err-counts_refusal.result c.from_residual-in_err-counts_refusal.ensures.1 in
+    rw (p.1, p.2, c.in_ok-a.was) (early c.in_ok-a.field-0.mode c.args.bases.now c.in_ok-a.field-0.a c.in_ok-a.field-0.b (before test) (told test ∙ c.in_err-counts_refusal.was))
 
 pub returns-in_err-lengths-clause-tagged : goal.returns-in_err-lengths-clause-tagged
 returns-in_err-lengths-clause-tagged c =
     let here = goal.at.returns-in_err-lengths-clause-tagged c in
     let test = here.After-counts_refusal in
     let passed = told test ∙ c.in_ok-counts_refusal.was in
-    let few = few_places c.args.mode c.args.bases.now c.args.a c.args.b (before test) passed in
+    let few = few_places c.in_ok-a.field-0.mode c.args.bases.now c.in_ok-a.field-0.a c.in_ok-a.field-0.b (before test) passed in
     let read = here.After-of-2 in
     let p = err_from_is_err_and c.from_residual-in_err-lengths.result c.from_residual-in_err-lengths.ensures.1 in
     let texts = rw c.in_err-lengths.was at c.duplex_texts.ensures.texts in
-    rw (p.1, p.2) (late c.args.mode c.args.bases.now c.args.a c.args.b (before test) passed (rw (a_lent read few, b_lent read few) at texts))
+    rw (p.1, p.2, c.in_ok-a.was) (late c.in_ok-a.field-0.mode c.args.bases.now c.in_ok-a.field-0.a c.in_ok-a.field-0.b (before test) passed (rw (a_lent read few, b_lent read few) at texts))
 
-pub write_held-requires : goal.write_held-requires
-write_held-requires c =
-    let here = goal.at.write_held-requires c in
+pub write_counts-requires-clause-of_a : goal.write_counts-requires-clause-of_a
+write_counts-requires-clause-of_a c =
+    let here = goal.at.write_counts-requires-clause-of_a c in
     let test = here.After-counts_refusal in
     let passed = told test ∙ c.in_ok-counts_refusal.was in
-    let few = few_places c.args.mode c.args.bases.now c.args.a c.args.b (before test) passed in
-    (ready c.args.mode c.args.bases.now c.args.a c.args.b (before test) passed).a_unconverted (ap (λ (e : EvidenceArrays). e.unconverted) (a_read here.After-of-2 few))
+    let few = few_places c.in_ok-a.field-0.mode c.args.bases.now c.in_ok-a.field-0.a c.in_ok-a.field-0.b (before test) passed in
+    (ready c.in_ok-a.field-0.mode c.args.bases.now c.in_ok-a.field-0.a c.in_ok-a.field-0.b (before test) passed).a_unconverted (ap (λ (e : EvidenceArrays). e.unconverted) (a_read here.After-of-2 few))
 
-pub write_held-requires-2 : goal.write_held-requires-2
-write_held-requires-2 c =
-    let here = goal.at.write_held-requires-2 c in
+pub write_counts-requires-clause-of_b : goal.write_counts-requires-clause-of_b
+write_counts-requires-clause-of_b c =
+    let here = goal.at.write_counts-requires-clause-of_b c in
     let test = here.After-counts_refusal in
     let passed = told test ∙ c.in_ok-counts_refusal.was in
-    let few = few_places c.args.mode c.args.bases.now c.args.a c.args.b (before test) passed in
-    (ready c.args.mode c.args.bases.now c.args.a c.args.b (before test) passed).a_converted (ap (λ (e : EvidenceArrays). e.converted) (a_read here.After-of-2 few))
+    let few = few_places c.in_ok-a.field-0.mode c.args.bases.now c.in_ok-a.field-0.a c.in_ok-a.field-0.b (before test) passed in
+    (ready c.in_ok-a.field-0.mode c.args.bases.now c.in_ok-a.field-0.a c.in_ok-a.field-0.b (before test) passed).b_unconverted (ap (λ (e : EvidenceArrays). e.unconverted) (b_read here.After-of-2 few))
 
-pub write_held-requires-3 : goal.write_held-requires-3
-write_held-requires-3 c =
-    let here = goal.at.write_held-requires-3 c in
+pub write_counts-requires-clause-of_both : goal.write_counts-requires-clause-of_both
+write_counts-requires-clause-of_both c =
+    let here = goal.at.write_counts-requires-clause-of_both c in
     let test = here.After-counts_refusal in
     let passed = told test ∙ c.in_ok-counts_refusal.was in
-    let few = few_places c.args.mode c.args.bases.now c.args.a c.args.b (before test) passed in
-    (ready c.args.mode c.args.bases.now c.args.a c.args.b (before test) passed).b_unconverted (ap (λ (e : EvidenceArrays). e.unconverted) (b_read here.After-of-2 few))
+    (ready c.in_ok-a.field-0.mode c.args.bases.now c.in_ok-a.field-0.a c.in_ok-a.field-0.b (before test) passed).unconverted
 
-pub write_held-requires-4 : goal.write_held-requires-4
-write_held-requires-4 c =
-    let here = goal.at.write_held-requires-4 c in
+pub write_counts-requires-2-clause-of_a : goal.write_counts-requires-2-clause-of_a
+write_counts-requires-2-clause-of_a c =
+    let here = goal.at.write_counts-requires-2-clause-of_a c in
     let test = here.After-counts_refusal in
     let passed = told test ∙ c.in_ok-counts_refusal.was in
-    let few = few_places c.args.mode c.args.bases.now c.args.a c.args.b (before test) passed in
-    (ready c.args.mode c.args.bases.now c.args.a c.args.b (before test) passed).b_converted (ap (λ (e : EvidenceArrays). e.converted) (b_read here.After-of-2 few))
+    let few = few_places c.in_ok-a.field-0.mode c.args.bases.now c.in_ok-a.field-0.a c.in_ok-a.field-0.b (before test) passed in
+    (ready c.in_ok-a.field-0.mode c.args.bases.now c.in_ok-a.field-0.a c.in_ok-a.field-0.b (before test) passed).a_converted (ap (λ (e : EvidenceArrays). e.converted) (a_read here.After-of-2 few))
 
-pub write_summed-requires-clause-fits : goal.write_summed-requires-clause-fits
-write_summed-requires-clause-fits c =
-    let test = (goal.at.write_summed-requires-clause-fits c).After-counts_refusal in
+pub write_counts-requires-2-clause-of_b : goal.write_counts-requires-2-clause-of_b
+write_counts-requires-2-clause-of_b c =
+    let here = goal.at.write_counts-requires-2-clause-of_b c in
+    let test = here.After-counts_refusal in
     let passed = told test ∙ c.in_ok-counts_refusal.was in
-    (ready c.args.mode c.args.bases.now c.args.a c.args.b (before test) passed).unconverted
+    let few = few_places c.in_ok-a.field-0.mode c.args.bases.now c.in_ok-a.field-0.a c.in_ok-a.field-0.b (before test) passed in
+    (ready c.in_ok-a.field-0.mode c.args.bases.now c.in_ok-a.field-0.a c.in_ok-a.field-0.b (before test) passed).b_converted (ap (λ (e : EvidenceArrays). e.converted) (b_read here.After-of-2 few))
 
-pub write_summed-requires-2-clause-fits : goal.write_summed-requires-2-clause-fits
-write_summed-requires-2-clause-fits c =
-    let test = (goal.at.write_summed-requires-2-clause-fits c).After-counts_refusal in
+pub write_counts-requires-2-clause-of_both : goal.write_counts-requires-2-clause-of_both
+write_counts-requires-2-clause-of_both c =
+    let here = goal.at.write_counts-requires-2-clause-of_both c in
+    let test = here.After-counts_refusal in
     let passed = told test ∙ c.in_ok-counts_refusal.was in
-    (ready c.args.mode c.args.bases.now c.args.a c.args.b (before test) passed).converted
+    (ready c.in_ok-a.field-0.mode c.args.bases.now c.in_ok-a.field-0.a c.in_ok-a.field-0.b (before test) passed).converted
 
 pub returns-clause-tagged : goal.returns-clause-tagged
 returns-clause-tagged c =
     let here = goal.at.returns-clause-tagged c in
     let test = here.After-counts_refusal in
     let passed = told test ∙ c.in_ok-counts_refusal.was in
-    let few = few_places c.args.mode c.args.bases.now c.args.a c.args.b (before test) passed in
+    let few = few_places c.in_ok-a.field-0.mode c.args.bases.now c.in_ok-a.field-0.a c.in_ok-a.field-0.b (before test) passed in
     let a_is = a_read here.After-of-2 few in
     let b_is = b_read here.After-of-2 few in
     let texts = rw c.in_ok-lengths.was at c.duplex_texts.ensures.texts in
-    let left = left_counts c.args.mode c.args.bases.now c.args.a c.args.b (before test) _ (ap (λ (e : EvidenceArrays). e.unconverted) a_is) (ap (λ (e : EvidenceArrays). e.converted) a_is) (ap (λ (e : EvidenceArrays). e.unconverted) b_is) (ap (λ (e : EvidenceArrays). e.converted) b_is) c.write_held.ensures c.write_held-2.ensures c.write_held-3.ensures c.write_held-4.ensures c.write_summed.ensures c.write_summed-2.ensures in
-    all_written c.args.mode c.args.bases.now c.args.a c.args.b (before test) passed (rw (a_lent here.After-of-2 few, b_lent here.After-of-2 few) at texts) left
+    let left = left_counts c.in_ok-a.field-0.mode c.args.bases.now c.in_ok-a.field-0.a c.in_ok-a.field-0.b (before test) _ (ap (λ (e : EvidenceArrays). e.unconverted) a_is) (ap (λ (e : EvidenceArrays). e.converted) a_is) (ap (λ (e : EvidenceArrays). e.unconverted) b_is) (ap (λ (e : EvidenceArrays). e.converted) b_is) c.write_counts.ensures.written c.write_counts-2.ensures.written in
+    rw c.in_ok-a.was (all_written c.in_ok-a.field-0.mode c.args.bases.now c.in_ok-a.field-0.a c.in_ok-a.field-0.b (before test) passed (rw (a_lent here.After-of-2 few, b_lent here.After-of-2 few) at texts) left)
