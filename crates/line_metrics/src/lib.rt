@@ -27,7 +27,7 @@ fn write_rate_field(bits: u32, to: &mut Writer<'_>)
     to.write_bits(bits);
 }
 
-// The largest depth, the smallest and the rate of a strand or of both.
+// The largest depth, the smallest and the rate of a strand or of both: no struct of the three, since MetricsBits has them by the tags' names.
 #[tactic(auto, using(crate::proofs::MetricsText::figures_most))]
 fn write_figures(largest: u32, smallest: u32, rate: u32, to: &mut Writer<'_>)
     ensures written { Writes (figures_text largest smallest rate) to.old to.new }

@@ -1,12 +1,11 @@
 -- The thresholds, of which 4 are read: more are refused as 4 are.
 --     refused_four         the refusal of the first 4 is that of all
 --     slice_read           what was read to an array of zeros
---     text_refused, text_passed       a molecule's line, by what its thresholds are
+--     text_refused, text_passed       a molecule's text and line, by what its thresholds are
 -- Assumes nothing.
 use mathlib.Core.Path.{◌≡◌, refl, sym, ap, subst, ◌∙◌}
 use mathlib.Core.List.{List, [], ◌∷◌}
-use Prim.Native.Nat.{ℕ, ◌-◌, ◌/◌, min}
-use native.Mathlib.Nat.{sub-zero}
+use Prim.Native.Nat.{ℕ, ◌/◌, min}
 use native.Mathlib.Omega.{arith}
 use borrow.Author.Tests.{lt-ltb, ne_eqb}
 use lib.ListN.{length, take, drop, replicate, length-take}
@@ -45,25 +44,25 @@ few (a ∷ (b ∷ [])) e = refl
 few (a ∷ (b ∷ (c ∷ []))) e = refl
 few (a ∷ (b ∷ (c ∷ (d ∷ ts)))) e = let two : Some TooManyThresholds ≡ None = sym (many a b c d ts) ∙ e in let z : ◌≡◌ {A = ℕ} 0 1 = cc in absurd (omega arith)
 
-pub slice_read : (bytes : List ℕ) {L : List ℕ} {count : ℕ} → L ≡ put (take (length {A = ℕ} (replicate 4 0)) (words32 bytes)) (replicate 4 0) → count ≡ min (length bytes / 4) 4 → take (count - 0) L ≡ take 4 (words32 bytes)
+pub slice_read : (bytes : List ℕ) {L : List ℕ} {count : ℕ} → L ≡ put (take (length {A = ℕ} (replicate 4 0)) (words32 bytes)) (replicate 4 0) → count ≡ min (length bytes / 4) 4 → take count L ≡ take 4 (words32 bytes)
 unfolding put
 slice_read bytes {L} {count} e c =
     let xs = take 4 (words32 bytes) in
     let size : length xs ≡ count = omega (arith, length-take 4 (words32 bytes), length_numbers 4 bytes) in
-    rw (sub-zero, e) (take_at xs (drop (length xs) (replicate 4 0)) count size)
+    rw e (take_at xs (drop (length xs) (replicate 4 0)) count size)
 
 module _ (m : MoleculeParts) {values list : List ℕ} {got : Result MinReads Refusal} (v : values ≡ value_or m.thresholds) (l : list ≡ take 4 (words32 values)) (g : got ≡ validated list) where
   -- What was answered is the refusal of all.
   all : got ≡ answer (refused (thresholds_of m)) (min_reads list)
   all = g ∙ ap (λ (row : Option Refusal). answer row (min_reads list)) (ap (λ (ts : List ℕ). refused ts) (l ∙ ap (λ (x : List ℕ). take 4 (words32 x)) v) ∙ refused_four (thresholds_of m))
 
-  pub text_refused : {row : Refusal} {r : Line} → got ≡ Err row → Holds (refused_text (number_of row)) r → Holds (molecule_text m) r
+  pub text_refused : {row : Refusal} → got ≡ Err row → molecule_text m ≡ refused_text (number_of row)
   unfolding molecule_text
-  text_refused {row} {r} e h = go (refused (thresholds_of m)) (sym all ∙ e)
+  text_refused {row} e = go (refused (thresholds_of m)) (sym all ∙ e)
     where
-      go : (k : Option Refusal) → answer k (min_reads list) ≡ Err row → Holds (text_unless k (read_text (thresholds_of m) m)) r
+      go : (k : Option Refusal) → answer k (min_reads list) ≡ Err row → text_unless k (read_text (thresholds_of m) m) ≡ refused_text (number_of row)
       go None f = let z : ◌≡◌ {A = ℕ} 0 1 = cc in absurd (omega arith)
-      go (Some other) f = let same : row ≡ other = cc in subst (λ (x : Refusal). Holds (refused_text (number_of x)) r) same h
+      go (Some other) f = let same : other ≡ row = cc in ap (λ (x : Refusal). refused_text (number_of x)) same
 
   pub text_passed : {told : MinReads} {r : Line} → got ≡ Ok told → Holds (read_text list m) r → Holds (molecule_text m) r
   unfolding molecule_text

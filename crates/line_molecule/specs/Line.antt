@@ -8,8 +8,9 @@ use Rattle.molecule_encoding.specs.Format.{StrandParts, MoleculeParts, decoded}
 use Rattle.molecule_encoding.specs.Parts.{value_in, parts_in}
 use Rattle.molecule_encoding.specs.declared.Molecule.{Molecule}
 use Rattle.duplex_min_reads.specs.MinReads.{refused}
-use Rattle.molecule_strand.specs.Strand.{StrandBytes, annotation_of, strand_bytes}
+use Rattle.molecule_strand.specs.Strand.{StrandBytes, encoded_annotation, strand_bytes}
 use Rattle.line_format.specs.Line.{refused_text}
+use Rattle.line_record.specs.Line.{Holds}
 use Rattle.line_record.specs.declared.Line.{Line}
 use Rattle.line_strands.specs.Strands.{strands_text}
 use Rattle.methylation.specs.declared.ConversionPattern.{ConversionPattern}
@@ -25,7 +26,7 @@ thresholds_of m = words32 (value_or m.thresholds)
 
 -- An annotation's value is its pattern byte and then the evidence.
 abbrev pub annotation_in : Option (List ℕ) → Option ConversionPattern
-annotation_in value = annotation_of (is_some value) (get_or (value_or value) 0 0)
+annotation_in value = encoded_annotation (is_some value) (get_or (value_or value) 0 0)
 
 -- A strand of a molecule.
 abbrev pub strand_in : Option StrandParts → StrandBytes
@@ -51,6 +52,11 @@ decoded_text (Ok m) = molecule_text m
 
 unfoldable pub text_of : List ℕ → List ℕ
 text_of bytes = decoded_text (decoded bytes)
+
+-- A line that holds a text, or the refusal whose text that is.
+abbrev pub LineTold : List ℕ → Result Line Refusal → Type 0
+LineTold text (Ok line) = Holds text line
+LineTold text (Err refusal) = text ≡ refused_text (number_of refusal)
 
 -- What a text is returned in: its length, and its bytes at the front of an array of zeros.
 pub record TextIn (text : List ℕ) (r : Line) : Type 0 where

@@ -1,13 +1,12 @@
 // The text that duplexline prints for an encoded molecule: the line program of document 01, but for reading and writing.
-// Uses lists, refusals, byte_numbers, molecule_encoding, molecule_strand, molecule_consensus, duplex_min_reads, line_record and
-// line_strands.
+// Uses lists, refusals, methylation, byte_numbers, molecule_encoding, molecule_strand, molecule_consensus, duplex_min_reads, line_format,
+// line_record and line_strands.
 #![tactic(auto)]
 
 ghost use Rattle.std.specs.Prelude.{◌≡◌, drop, get_or};
 ghost use Rattle.molecule_encoding.specs.Parts.{parts_in};
-ghost use Rattle.molecule_strand.specs.Strand.{pattern_of, encoded_in};
-ghost use Rattle.line_record.specs.Line.{Holds};
-ghost use Rattle.line_molecule.specs.Line.{strand_in, parts_of, molecule_text, text_of, TextIn};
+ghost use Rattle.molecule_strand.specs.Strand.{encoded_pattern, encoded_in};
+ghost use Rattle.line_molecule.specs.Line.{strand_in, parts_of, molecule_text, text_of, TextIn, LineTold};
 
 use duplex_min_reads::validate_min_reads;
 use line_record::{Line, refused_line};
@@ -15,24 +14,17 @@ use line_strands::strands_line;
 use lists::get_or;
 use molecule_consensus::EncodedMolecule;
 use molecule_encoding::{Molecule, StrandFields, read_molecule};
-use molecule_strand::{EncodedAnnotation, EncodedStrand, pattern_of};
-
-// The evidence in an annotation's value: all after the pattern.
-fn evidence_of(value: &[u8]) -> &[u8]
-    ensures { result.now ≡ drop 1 value.now }
-{
-    let from = value.len().min(1);
-    &value[from..]
-}
+use molecule_strand::{EncodedAnnotation, EncodedStrand, encoded_pattern};
+use refusals::Refusal;
 
 // An annotation's value is its pattern byte and then the evidence.
 fn annotation_of<'a>(value: &'a [u8]) -> EncodedAnnotation<'a>
-    ensures pattern { result.pattern ≡ pattern_of (get_or value.now 0 0) }
+    ensures pattern { result.pattern ≡ encoded_pattern (get_or value.now 0 0) }
     ensures evidence { result.evidence.now ≡ drop 1 value.now }
 {
     EncodedAnnotation {
-        pattern: pattern_of(get_or(value, 0, 0)),
-        evidence: evidence_of(value),
+        pattern: encoded_pattern(get_or(value, 0, 0)),
+        evidence: value.get(1..).unwrap_or(&[]),
     }
 }
 
@@ -49,30 +41,30 @@ fn strand_of<'a>(s: Option<StrandFields<'a>>) -> Option<EncodedStrand<'a>>
     })
 }
 
-// The line of a molecule. More than 4 thresholds are refused as 4 are, so that no more are read.
-fn molecule_line(m: Molecule) -> Line
-    ensures { Holds (molecule_text (parts_of m.entry)) result }
+// The line of a molecule, or the refusal of its thresholds. More than 4 are refused as 4 are, so that no more are read.
+fn molecule_line(m: Molecule) -> Result<Line, Refusal>
+    ensures { LineTold (molecule_text (parts_of m.entry)) result }
 {
     let values = m.thresholds.unwrap_or(&[]);
-    // No heap: arrays of the most that is looked at.
+    // No heap: room for the 4.
     let mut thresholds = [0; 4];
     byte_numbers::read(values, &mut thresholds);
     let count = (values.len() / 4).min(4);
-    let min_reads = &thresholds[0..count];
-    if let Err(refusal) = validate_min_reads(min_reads) {
-        return refused_line(refusal.number());
-    }
+    let min_reads = &thresholds[..count];
+    validate_min_reads(min_reads)?;
     let encoded = EncodedMolecule {
         a: strand_of(m.a),
         b: strand_of(m.b),
         reads: m.reads,
     };
-    strands_line(encoded, min_reads)
+    Ok(strands_line(encoded, min_reads))
 }
 
 // The text for the bytes of an encoded molecule.
 pub fn duplex_line(bytes: &[u8]) -> Line
     ensures { TextIn (text_of bytes.now) result }
 {
-    read_molecule(bytes).map_or_else(|refusal| refused_line(refusal.number()), molecule_line)
+    read_molecule(bytes)
+        .and_then(molecule_line)
+        .unwrap_or_else(|refusal| refused_line(refusal.number()))
 }

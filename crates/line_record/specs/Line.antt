@@ -1,5 +1,7 @@
 -- The text that a duplex record is reported with, document 01: its line program, from an answer of the library and the arrays around it.
-use Rattle.std.specs.Prelude.{ℕ, ◌≤◌, Option, None, Some, Result, Ok, Err, List, length, take, replicate}
+use Rattle.std.specs.Prelude.{ℕ, Option, None, Some, Result, Ok, Err, List, take, replicate}
+use Rattle.std.specs.Borrow.{MutBor}
+use Rattle.std.specs.Fn.{Once}
 use Rattle.duplex_kind.specs.declared.DuplexConsensus.{DuplexConsensus}
 use Rattle.line_output.specs.Text.{Written}
 use Rattle.line_format.specs.Line.{Columns, columns, line_text, none_text, refused_text, Fits, Short}
@@ -31,6 +33,13 @@ blank = replicate 12288 0
 -- A text in an array of zeros: as much of it as there is room for.
 abbrev pub Within : List ℕ → Line → Type 0
 Within text r = Written text blank r.bytes r.length
+
+-- A line by a function that is called on zeros: it holds any text of which that function writes as much as there is room for.
+pub record LineBy {F : Type 0} (g : Once F (MutBor (List ℕ) × Unit {0}) (ℕ × (MutBor (List ℕ) × Unit {0}))) (write : F) (r : Line) : Type 0 where
+  pub zeros : MutBor (List ℕ)
+  pub left : MutBor (List ℕ)
+  pub called : g.post write (zeros, tt) (r.length, (left, tt))
+  pub holds : (text : List ℕ) → Written text zeros.now left.now r.length → Within text r
 
 -- A text that there is room for.
 pub record Holds (text : List ℕ) (r : Line) : Type 0 where

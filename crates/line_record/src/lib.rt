@@ -1,10 +1,10 @@
 // The line that a duplex record is reported with, from what the library answered and wrote. Uses lists, duplex_kind, duplex_metrics,
-// line_format and line_report.
+// line_output, line_format and line_report.
 #![tactic(auto)]
 
 ghost use Rattle.line_format.specs.Line.{columns_in, none_text, refused_text};
 ghost use Rattle.line_report.specs.Report.{strands_in};
-ghost use Rattle.line_record.specs.Line.{some_text, report_text, answer_text, Holds, HoldsOf};
+ghost use Rattle.line_record.specs.Line.{some_text, report_text, answer_text, Holds, HoldsOf, LineBy};
 
 use duplex_kind::DuplexConsensus;
 use duplex_metrics::Counts;
@@ -20,24 +20,29 @@ pub struct Line {
     pub bytes: [u8; LINE_BYTES],
 }
 
+// The line of what a function writes to the front of zeros. It answers how long its text is.
+fn line_by<F: FnOnce(&mut [u8]) -> usize>(write: F) -> Line
+    requires { F.IsAlwaysCallable write }
+    ensures { LineBy F.FnOnce write result }
+{
+    // No heap: room for the longest text.
+    let mut bytes = [0; LINE_BYTES];
+    let length = write(&mut bytes);
+    Line { length, bytes }
+}
+
 // The line of a refusal. Any number is taken: a Refusal would ask more of callers.
 pub fn refused_line(number: u8) -> Line
     ensures { Holds (refused_text number) result }
 {
-    // No heap: arrays of the most that is looked at.
-    let mut bytes = [0; LINE_BYTES];
-    let length = write_refused(number, &mut bytes);
-    Line { length, bytes }
+    line_by(|out| write_refused(number, out))
 }
 
 // The line where there is no record.
 fn none_line() -> Line
     ensures { Holds none_text result }
 {
-    // No heap: arrays of the most that is looked at.
-    let mut bytes = [0; LINE_BYTES];
-    let length = write_none(&mut bytes);
-    Line { length, bytes }
+    line_by(|out| write_none(out))
 }
 
 // The line of a record, which stands at the front of the arrays.
@@ -48,15 +53,14 @@ fn text_line(report: Report, row: RecordColumns) -> Line
     let bases = front(row.bases, positions);
     let quals = front(row.quals, positions);
     let errors = front(row.errors, positions);
-    let within = RecordColumns {
-        bases,
-        quals,
-        errors,
-    };
-    // No heap: arrays of the most that is looked at.
-    let mut bytes = [0; LINE_BYTES];
-    let length = write_record(report.kind, report.kept, within, report.metrics, &mut bytes);
-    Line { length, bytes }
+    line_by(|out| {
+        let within = RecordColumns {
+            bases,
+            quals,
+            errors,
+        };
+        write_record(report.kind, report.kept, within, report.metrics, out)
+    })
 }
 
 // Refused by any number, as record_line's answer may be.

@@ -2,13 +2,14 @@
 use mathlib.Core.Path.{◌≡◌, subst}
 use mathlib.Core.Bool.{Bool}
 use mathlib.Core.List.{List}
-use Prim.Native.Nat.{ℕ, ◌≤◌}
+use Prim.Native.Nat.{ℕ}
 use native.Mathlib.Omega.{arith}
 use lib.ListN.{length}
 use Rattle.molecule_strand.specs.Strand.{StrandBytes}
 use Rattle.duplex_outputs.specs.Outputs.{RecordArrays, record_of}
 use Rattle.std.proofs.Common.{Option, Result}
 use Rattle.refusals.specs.declared.Refusal.{Refusal}
+use Rattle.refusals.specs.Outcome.{by_number}
 use Rattle.duplex_kind.specs.declared.DuplexConsensus.{DuplexConsensus}
 use Rattle.molecule_consensus.specs.Bytes.{seen, BytesAs}
 use Rattle.molecule_consensus.proofs.Ample.{Ample, zeros_ample, inputs_alone}
@@ -16,7 +17,7 @@ use Rattle.line_format.specs.Line.{Fits, columns}
 use Rattle.line_report.specs.Report.{strands}
 use Rattle.line_record.specs.Line.{answer_text, Within, Holds, HoldsOf}
 use Rattle.line_record.specs.declared.Line.{Line}
-use Rattle.line_strands.specs.Strands.{zeros, numbered, counts_of, strands_text}
+use Rattle.line_strands.specs.Strands.{zeros, counts_of, strands_text}
 
 -- The buffers as the call begins.
 abbrev pub buffers : RecordArrays
@@ -27,7 +28,7 @@ ample = zeros_ample
 
 module _ (ts : List ℕ) (a b : StrandBytes) (listed : Bool) (run : List ℕ) {now : RecordArrays} {made : Result (Option DuplexConsensus) Refusal} (e : BytesAs (seen a) (seen b) listed run buffers now made) where
   abbrev found : List ℕ
-  found = answer_text (numbered made) (strands (counts_of a) (counts_of b)) ts (columns now.bases now.quals now.errors)
+  found = answer_text (by_number made) (strands (counts_of a) (counts_of b)) ts (columns now.bases now.quals now.errors)
 
   same_text : found ≡ strands_text ts a b listed run
   unfolding strands_text

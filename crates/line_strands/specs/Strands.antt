@@ -1,9 +1,8 @@
 -- The text for two strands given as bytes and a list of reads that is a run, document 01's line program: what the library's call on
 -- them answers, and leaves in output buffers of 1,024 places that start as zeros.
-use Rattle.std.specs.Prelude.{ℕ, Bool, Option, Result, Ok, Err, List, replicate}
+use Rattle.std.specs.Prelude.{ℕ, Bool, Option, Result, List, replicate}
 use Rattle.refusals.specs.declared.Refusal.{Refusal}
-use Rattle.refusals.specs.Refusal.{number_of}
-use Rattle.refusals.specs.Outcome.{answer, after}
+use Rattle.refusals.specs.Outcome.{answer, after, by_number}
 use Rattle.byte_numbers.specs.Bytes.{words16}
 use Rattle.molecule_strand.specs.Strand.{StrandBytes, strand_of}
 use Rattle.duplex_outputs.specs.Outputs.{RecordArrays}
@@ -24,11 +23,6 @@ refusal_of a b listed run = inputs_refused (seen a) (seen b) listed run
 abbrev pub answer_of : StrandBytes → StrandBytes → Bool → List ℕ → Result (Option DuplexConsensus) Refusal
 answer_of a b listed run = answer (refusal_of a b listed run) (kind_of (strand_of (seen a)) (strand_of (seen b)))
 
--- With its refusal as a number.
-abbrev pub numbered : Result (Option DuplexConsensus) Refusal → Result (Option DuplexConsensus) ℕ
-numbered (Err refusal) = Err (number_of refusal)
-numbered (Ok made) = Ok made
-
 abbrev pub record_in : StrandBytes → StrandBytes → Bool → List ℕ → RecordArrays
 record_in a b listed run = bytes_record (seen a) (seen b) listed run
 
@@ -38,7 +32,7 @@ counts_of s = counts (words16 s.depths) (words16 s.errors)
 
 unfoldable pub strands_text : List ℕ → StrandBytes → StrandBytes → Bool → List ℕ → List ℕ
 strands_text thresholds a b listed run =
-    answer_text (numbered (answer_of a b listed run)) (strands (counts_of a) (counts_of b)) thresholds
+    answer_text (by_number (answer_of a b listed run)) (strands (counts_of a) (counts_of b)) thresholds
     (columns
     (after (refusal_of a b listed run) (record_in a b listed run).bases zeros)
     (after (refusal_of a b listed run) (record_in a b listed run).quals zeros)

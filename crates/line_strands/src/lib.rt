@@ -1,13 +1,15 @@
-// The text that duplexline prints for two strands given as bytes, once the thresholds are known to be valid. Uses lists, refusals,
-// duplex_kind, duplex_metrics, molecule_strand, molecule_consensus, line_format, line_record and line_report.
+// The text that duplexline prints for two strands given as bytes, once the thresholds are known to be valid. Uses refusals,
+// byte_numbers, duplex_outputs, duplex_kind, duplex_metrics, molecule_strand, molecule_errors, molecule_consensus, line_format, line_record
+// and line_report.
 #![tactic(auto)]
 
 ghost use Rattle.std.specs.Prelude.{◌≡◌, is_some};
+ghost use Rattle.refusals.specs.Outcome.{by_number};
 ghost use Rattle.line_record.specs.Line.{Holds};
 ghost use Rattle.line_report.specs.Report.{counts_in};
 ghost use Rattle.molecule_errors.specs.Run.{run_in};
 ghost use Rattle.molecule_strand.specs.Strand.{encoded_in};
-ghost use Rattle.line_strands.specs.Strands.{counts_of, numbered, strands_text};
+ghost use Rattle.line_strands.specs.Strands.{counts_of, strands_text};
 
 use duplex_kind::DuplexConsensus;
 use duplex_metrics::Counts;
@@ -32,9 +34,9 @@ fn count_bytes<'a>(s: Option<EncodedStrand<'a>>) -> Counts<'a, u8>
 
 // An answer with its refusal as a number, as record_line takes it: its text is promised for any number, a refusal's or not.
 fn numbered(made: Result<Option<DuplexConsensus>, Refusal>) -> Result<Option<DuplexConsensus>, u8>
-    ensures { result ≡ numbered made }
+    ensures { result ≡ by_number made }
 {
-    made.map_err(|refusal| refusal.number())
+    made.map_err(Refusal::number)
 }
 
 // The record of two strands, of one or of none, and its line.
