@@ -31,8 +31,6 @@ fn main(rt: HostRuntime) {
     // No heap: arrays of the most that is looked at.
     let mut input = [0; 65537];
     let n = read_full(&mut rt.stdin(), &mut input);
-    let line = duplex_line(&input[0..n]);
-    let end = line.length;
-    let text = line.bytes;
-    let _ = rt.stdout().write_all(&text[0..end]);
+    let line = duplex_line(&input[..n]);
+    let _ = rt.stdout().write_all(&line.bytes[..line.length]);
 }

@@ -1,7 +1,7 @@
 // The combination, the reasons, the metrics and the methylation tags over arrays of bytes, low byte first. The calls are those of c_interface, c_reason and c_tags.
 ghost use Rattle.std.specs.Prelude.{◌||◌, ◌≡◌};
 ghost use Rattle.replies.specs.Choices.{yes};
-ghost use Rattle.molecule_strand.specs.Strand.{wrong_pattern};
+ghost use Rattle.molecule_strand.specs.Strand.{wrong_encoded_pattern};
 ghost use Rattle.c_record.specs.Outputs.{record_bytes};
 ghost use Rattle.c_interface.specs.Entry.{told, strand_given, ConsensusEntry};
 ghost use Rattle.duplex_metrics.specs.Metrics.{input};
@@ -48,7 +48,7 @@ pub extern "C" fn gedrashiw_duplex_consensus(
     b_evidence_out: &mut [u8],
 ) -> DuplexRecord
     ensures { ConsensusEntry
-        (wrong_pattern (told a_present a_annotated) a_pattern || wrong_pattern (told b_present b_annotated) b_pattern)
+        (wrong_encoded_pattern (told a_present a_annotated) a_pattern || wrong_encoded_pattern (told b_present b_annotated) b_pattern)
         (strand_given a_present a_annotated a_pattern a_bases.now a_quals.now a_depths.now a_errors.now a_evidence.now)
         (strand_given b_present b_annotated b_pattern b_bases.now b_quals.now b_depths.now b_errors.now b_evidence.now)
         (yes listed) reads.now
@@ -129,7 +129,7 @@ pub extern "C" fn gedrashiw_no_call_reason(
     position: usize,
 ) -> Reason
     ensures { result ≡ reason_for (bytes_reason
-        (wrong_pattern (told a_present a_annotated) a_pattern || wrong_pattern (told b_present b_annotated) b_pattern)
+        (wrong_encoded_pattern (told a_present a_annotated) a_pattern || wrong_encoded_pattern (told b_present b_annotated) b_pattern)
         (strand_given a_present a_annotated a_pattern a_bases.now a_quals.now a_depths.now a_errors.now a_evidence.now)
         (strand_given b_present b_annotated b_pattern b_bases.now b_quals.now b_depths.now b_errors.now b_evidence.now)
         position) }

@@ -13,7 +13,7 @@ use Rattle.lists.specs.Part.{only_if}
 use Rattle.refusals.specs.declared.Refusal.{Refusal}
 use Rattle.refusals.specs.declared.Refusal.TheVariants.{Broken}
 use Rattle.refusals.specs.Refusal.{◌if◌, number_of, too_long}
-use Rattle.refusals.specs.Outcome.{answer, after}
+use Rattle.refusals.specs.Outcome.{answer, after, by_number}
 use Rattle.refusals.proofs.Claims.{none_lost}
 use Rattle.refusals.proofs.Condition.{both_hold, neither, not_too_long}
 use Rattle.byte_numbers.specs.Bytes.{words16}
@@ -37,7 +37,7 @@ use Rattle.line_format.specs.declared.Kind.{Kind}
 use Rattle.line_format.specs.declared.Kind.TheVariants.{Ab as Ab-kind, Ba as Ba-kind, Both as Both-kind}
 use Rattle.line_report.specs.Report.{Strands, strands, gated_report, front_input, record_report, some_report, reported}
 use Rattle.line_record.specs.Line.{front, report_text, answer_text}
-use Rattle.line_strands.specs.Strands.{zeros, numbered, refusal_of, record_in, counts_of, strands_text}
+use Rattle.line_strands.specs.Strands.{zeros, refusal_of, record_in, counts_of, strands_text}
 use Rattle.line_molecule.specs.Line.{value_or, thresholds_of, strand_in, read_text, text_unless, molecule_text, decoded_text, text_of}
 use Rattle.honest_rates.specs.Text.{column}
 use Rattle.honest_rates.specs.HonestRates.{Own, ab, ba, both, word, from_numbers, from_molecule}
@@ -201,7 +201,7 @@ module _ (bytes : List ℕ) (v : valid (whole_fields bytes) ≡ true) where
 
   -- The text by the row that refuses.
   abbrev text_by : Option Refusal → List ℕ
-  text_by row = answer_text (numbered (answer row (kind_of A B))) S ts (columns (after row made.bases zeros) (after row made.quals zeros) (after row made.errors zeros))
+  text_by row = answer_text (by_number (answer row (kind_of A B))) S ts (columns (after row made.bases zeros) (after row made.quals zeros) (after row made.errors zeros))
 
   abbrev strands_text_of : List ℕ
   strands_text_of = strands_text ts a b listed run

@@ -15,7 +15,7 @@ use Rattle.lists.specs.Part.{only_if}
 use Rattle.refusals.specs.declared.Refusal.{Refusal}
 use Rattle.refusals.specs.declared.Refusal.TheVariants.{Broken, TooLong, Ragged, TooManyReads, PartOutside}
 use Rattle.refusals.specs.Refusal.{number_of, too_long, ragged, too_many}
-use Rattle.refusals.specs.Outcome.{answer, after}
+use Rattle.refusals.specs.Outcome.{answer, after, by_number}
 use Rattle.refusals.proofs.Condition.{neither}
 use Rattle.byte_numbers.specs.Bytes.{words16, words32}
 use Rattle.fields.specs.Encoding.{Field, encoded, whole_fields}
@@ -40,7 +40,7 @@ use Rattle.line_format.specs.declared.Kind.TheVariants.{Ab as Ab-kind, Ba as Ba-
 use Rattle.line_report.specs.Report.{Strands, strands, some_report, reported}
 use Rattle.line_report.specs.declared.Report.{Report}
 use Rattle.line_record.specs.Line.{front, report_text, answer_text}
-use Rattle.line_strands.specs.Strands.{zeros, numbered, refusal_of, record_in, counts_of, strands_text}
+use Rattle.line_strands.specs.Strands.{zeros, refusal_of, record_in, counts_of, strands_text}
 use Rattle.line_molecule.specs.Line.{value_or, annotation_in, strand_in, read_text, text_unless, molecule_text}
 use Rattle.line_claims.specs.Claims.{places, Printed, none, record_line, TheReads}
 use Rattle.line_claims.proofs.Places.{Sized, value, strand_in_lem, same_value, sized_a, sized_b}
@@ -120,7 +120,7 @@ module _
 
     -- The text by the row that refuses.
     abbrev text_by : Option Refusal → List ℕ
-    text_by row = answer_text (numbered (answer row (kind_of A B))) S ts (columns (after row (record_in a b listed run).bases zeros) (after row (record_in a b listed run).quals zeros) (after row (record_in a b listed run).errors zeros))
+    text_by row = answer_text (by_number (answer row (kind_of A B))) S ts (columns (after row (record_in a b listed run).bases zeros) (after row (record_in a b listed run).quals zeros) (after row (record_in a b listed run).errors zeros))
 
     text_by_row : strands_text ts a b listed run ≡ text_by (refusal_of a b listed run)
     unfolding strands_text

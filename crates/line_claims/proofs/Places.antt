@@ -27,7 +27,7 @@ use Rattle.molecule_encoding.proofs.Claims.{value_fits}
 use Rattle.molecule_encoding.proofs.Parts.{all_fit, a_whole, b_whole}
 use Rattle.molecule_encoding.proofs.Values.{value_there}
 use Rattle.molecule_evidence.specs.Evidence.{mark_in, count_in}
-use Rattle.molecule_strand.specs.Strand.{StrandBytes, strand_bytes, annotation_of, strand_of}
+use Rattle.molecule_strand.specs.Strand.{StrandBytes, strand_bytes, encoded_annotation, strand_of}
 use Rattle.duplex_kind.specs.Kind.{given, long, uneven}
 use Rattle.molecule_consensus.specs.Bytes.{seen, misfit}
 use Rattle.line_molecule.specs.Line.{value_or}
@@ -63,7 +63,7 @@ five false false false false false = refl
 
 module _ (p : ℕ) (b q d e v : List ℕ) where
   abbrev given_bytes : Bool → Bool → StrandBytes
-  given_bytes present annotated = strand_bytes present (annotation_of annotated p) b q d e (drop 1 v)
+  given_bytes present annotated = strand_bytes present (encoded_annotation annotated p) b q d e (drop 1 v)
 
   abbrev lengths_of_lem : Bool → List ℕ
   lengths_of_lem annotated = length b ∷ length q ∷ length d / 2 ∷ length e / 2 ∷ cond annotated ((length v - 1) / 9 ∷ []) []
@@ -123,7 +123,7 @@ value tag fs = value_or (value_of tag fs)
 
 -- The strand of some fields, whose first tag is given.
 abbrev pub strand_in_lem : ℕ → List Field → StrandBytes
-strand_in_lem first fs = strand_bytes (has first fs) (annotation_of (has (first + 4) fs) (get_or (value (first + 4) fs) 0 0)) (value first fs) (value (first + 1) fs) (value (first + 2) fs) (value (first + 3) fs) (drop 1 (value (first + 4) fs))
+strand_in_lem first fs = strand_bytes (has first fs) (encoded_annotation (has (first + 4) fs) (get_or (value (first + 4) fs) 0 0)) (value first fs) (value (first + 1) fs) (value (first + 2) fs) (value (first + 3) fs) (drop 1 (value (first + 4) fs))
 
 -- Both ways to say that a value may be absent.
 pub same_value : (v : Option (List ℕ)) → value_or v ≡ unwrap_or v []

@@ -5,6 +5,7 @@ use Rattle.lists.specs.Count.{count_of}
 use Rattle.flags.specs.Flags.{is_set}
 use Rattle.duplex_molecule.specs.Molecule.{is_error, ct_input}
 use Rattle.source_reads.specs.Reads.{expected_at}
+use Rattle.duplex_consensus.specs.Consensus.{bases_of}
 use Rattle.fields.specs.Encoding.{Field, Short, encoded}
 use Rattle.molecule_reads.specs.Claims.{AllReads, said}
 use Rattle.duplex_kind.specs.Kind.{Strand}
@@ -17,7 +18,7 @@ field_error expected i f = ltb i (length (said f).1) && is_error (get_or (said f
 
 -- What a read should show at position i, by the bases and qualities of both strands.
 abbrev pub expected_of : Strand → Strand → ℕ → Bool → ℕ
-expected_of a b i = expected_at (ct_input a.annotation b.annotation) a.arrays.bases a.arrays.quals b.arrays.bases b.arrays.quals i
+expected_of a b i = expected_at (ct_input a.annotation b.annotation) (bases_of a.arrays) (bases_of b.arrays) i
 
 -- The errors of a record's position, held to 32,767.
 abbrev pub EachCounted : Type 0

@@ -9,9 +9,7 @@ use Rattle.lists.specs.Table.{tabulate}
 use Rattle.dna.specs.Dna.{upper, same_letter}
 use Rattle.phred.specs.Phred.{capped_quality}
 use Rattle.rates.specs.Rate.{rate_of}
-use Rattle.caller.specs.Short.{short_of}
 use Rattle.duplex_errors.specs.Errors.{agreeing, disagreeing}
-use Rattle.methylation_calls.specs.Calls.{ml_of}
 use Rattle.duplex_molecule.specs.Molecule.{is_call, molecule_call, call_at}
 use Rattle.duplex_call.specs.Annotated.{combined, estimated_uncalled, estimated}
 use Rattle.duplex_position.specs.Combination.{agreed, disagreed, masked, uncalled, called}
