@@ -3,13 +3,13 @@
 --     by_tenths                     what holds below 10, and from 10 on where it holds of the tenth, holds of every number
 --     digits_within                 a number has at most one digit more than the number itself
 --     few_digits                    a number below 10 to the power k has at most k digits
---     only_digits                   each character of the text is a digit's
+--     each_digit                    a test that each digit's character meets is met by the text
 --     value_decimal                 the text read back is the number
 --     listed_append                 numbers with a comma before each, in two parts
 --     put_first, put_more           what an output holds when the first digit is stored, and one more behind those of the tenth
 -- Assumes nothing.
 use mathlib.Core.Path.{◌≡◌, refl, ap, ◌∙◌, sym}
-use mathlib.Core.Bool.{Bool, true, false, cond}
+use mathlib.Core.Bool.{Bool, true, false, cond, ◌&&◌}
 use mathlib.Core.List.{List, [], ◌∷◌, ◌++◌, foldl-append, append_assoc}
 use Prim.Native.Nat.{ℕ, zero, suc, ◌+◌, ◌*◌, ◌/◌, ◌%◌, ◌^◌, ◌≤◌, ◌<◌}
 use native.Mathlib.Omega.{arith}
@@ -18,14 +18,10 @@ use borrow.Author.Tests.{lt-ltb, le-ltb, ltb-true, ltb-false}
 use lib.Dec.{ltb}
 use lib.ListN.{length, take, set, length-append}
 use lib.Seq.{take-nil}
+use Rattle.lists.specs.Every.{every}
 use Rattle.lists.specs.Output.{put}
 use Rattle.lists.proofs.Output.{fitting_snoc}
 use Rattle.decimal.specs.Decimal.{digit, decimal_in, decimal, value_of, listed}
-
--- P of each element.
-abbrev pub Each : (ℕ → Type 0) → List ℕ → Type 0
-Each P [] = Unit {0}
-Each P (x ∷ xs) = P x × Each P xs
 
 -- The bound on the digits does not matter where it is above the number.
 enough : (k j n : ℕ) → n < k → n < j → decimal_in k n ≡ decimal_in j n
@@ -96,12 +92,19 @@ pub put_more :
     → after ≡ put (take (length out) (decimal n)) out
 put_more n out h a r e = e ∙ rw (a, r, decimal_more n h) (fitting_snoc (decimal (n / 10)) out (digit (n % 10)))
 
-pub only_digits : (P : ℕ → Type 0) → ((d : ℕ) → d < 10 → P (digit d)) → (n : ℕ) → Each P (decimal n)
-only_digits P so = by_tenths (λ n. Each P (decimal n)) (λ n h. rw (decimal_one n h) (so n h, tt)) (λ n h rest. rw (decimal_more n h) (each_snoc (decimal (n / 10)) (digit (n % 10)) rest (so (n % 10) (omega arith))))
-  where
-    each_snoc : (xs : List ℕ) (x : ℕ) → Each P xs → P x → Each P (xs ++ x ∷ [])
-    each_snoc [] x p q = (q, tt)
-    each_snoc (y ∷ ys) x p q = (p.0, each_snoc ys x p.1 q)
+module _ (p : ℕ → Bool) where
+  every_snoc : (xs : List ℕ) (x : ℕ) → every p xs ≡ true → p x ≡ true → every p (xs ++ x ∷ []) ≡ true
+  unfolding every
+  every_snoc [] x all last = rw last
+  every_snoc (y ∷ ys) x all last = go (p y) all (λ rest. every_snoc ys x rest last)
+    where
+      go : (here : Bool) → (here && every p ys) ≡ true → (every p ys ≡ true → every p (ys ++ x ∷ []) ≡ true) → (here && every p (ys ++ x ∷ [])) ≡ true
+      go true rest later = later rest
+      go false rest later = rest
+
+  pub each_digit : ((d : ℕ) → d < 10 → p (digit d) ≡ true) → (n : ℕ) → every p (decimal n) ≡ true
+  unfolding every
+  each_digit so = by_tenths (λ n. every p (decimal n) ≡ true) (λ n h. rw (decimal_one n h, so n h)) (λ n h rest. rw (decimal_more n h) (every_snoc (decimal (n / 10)) (digit (n % 10)) rest (so (n % 10) (omega arith))))
 
 pub value_decimal : (n : ℕ) → value_of (decimal n) ≡ n
 unfolding value_of

@@ -2,29 +2,26 @@
 --     record_is                        it is the one that was promised
 --     a_number, b_number, c_number     its rates are no NaN, so that their bits may be asked for
 -- Assumes nothing.
-use mathlib.Core.Path.{◌≡◌, refl}
+use mathlib.Core.Path.{◌≡◌, sym}
 use mathlib.Core.Bool.{not}
 use native.Mathlib.Omega.{arith}
 use lib.Dec.{T}
 use lib.ListN.{length}
 use lib.Ieee.{is_nan}
-use Rattle.std.proofs.Common.{Option, Some, None, Ok}
+use Rattle.std.proofs.Common.{None, Ok}
 use Rattle.lists.specs.Part.{only_if}
-use Rattle.refusals.specs.declared.Refusal.{Refusal}
-use Rattle.refusals.specs.Outcome.{answer}
+use Rattle.refusals.proofs.Outcome.{passed_by}
 use Rattle.rates.proofs.Rates.{number}
 use Rattle.duplex_metrics.specs.Metrics.{Input, strand_figures, record_figures, figures_a, figures_b, figures_c, no_calls, lengths, metrics_refused, metrics_record, record_of, metrics_of}
 use Rattle.duplex_metrics.specs.declared.MetricsRecord.{MetricsRecord}
 use Rattle.duplex_metrics.proofs.Depths.{depths_sum, capped_sum}
 use Rattle.duplex_metrics.proofs.Few.{Few, few, second_few, only_few}
 
-returned : (row : Option Refusal) (r s : MetricsRecord) → answer row r ≡ Ok s → (row ≡ None) × (s ≡ r)
-returned None r s e = (refl, cc)
-returned (Some row) r s e = absurd cc
-
 module _ (x : Input) (r : MetricsRecord) (e : metrics_of x ≡ Ok r) where
   both : (metrics_refused x ≡ None) × (r ≡ record_of x)
-  both = returned (metrics_refused x) _ r e
+  both =
+      let (passed, is) = passed_by (metrics_refused x) (record_of x) e in
+      (passed, sym is)
 
   pub record_is : r ≡ metrics_record (figures_a x) (figures_b x) (figures_c x) (no_calls x)
   record_is = both.1

@@ -4,19 +4,20 @@
 --     uncalled_between      the letters that a skip count counts are left uncalled
 -- Assumes nothing.
 use mathlib.Core.Path.{◌≡◌, refl, ap, ◌∙◌}
-use mathlib.Core.Bool.{Bool, true, false, cond}
+use mathlib.Core.Bool.{Bool, true, false, cond, not, ◌&&◌}
 use mathlib.Core.List.{List, [], ◌∷◌, ◌++◌, foldl, append-nil, append_assoc}
 use Prim.Native.Nat.{ℕ, zero, suc, ◌+◌, ◌-◌, ◌*◌, ◌≤◌, ◌<◌}
 use native.Mathlib.Omega.{arith}
-use borrow.Author.Tests.{ne_eqb, ltb-true, ltb-false}
+use borrow.Author.Tests.{ne_eqb, not-true, ltb-true, ltb-false}
 use lib.Dec.{eqb, ltb}
 use lib.ListN.{length, drop, get_or}
 use lib.Seq.{slice, slice-cons, drop-cons}
+use Rattle.lists.specs.Every.{every}
 use Rattle.lists.specs.Part.{only_if}
 use Rattle.lists.proofs.Count.{count_cons}
 use Rattle.refusals.proofs.Condition.{both_hold}
 use Rattle.decimal.specs.Decimal.{digit, decimal, value_of, listed}
-use Rattle.decimal.proofs.Decimal.{Each, only_digits, value_decimal}
+use Rattle.decimal.proofs.Decimal.{each_digit, value_decimal}
 use Rattle.methylation.specs.declared.ConversionPattern.{ConversionPattern}
 use Rattle.methylation.specs.declared.ConversionPattern.TheVariants.{CToT, GToA}
 use Rattle.methylation.specs.declared.MethylationMode.{MethylationMode}
@@ -28,26 +29,29 @@ use Rattle.mm_ml.proofs.Walk.{past, past_append, letters_none, passing}
 use Rattle.mm_ml.proofs.Group.{calls_some, text_some}
 
 -- A character that ends no number.
-abbrev Digit : ℕ → Type 0
-Digit c = (eqb c 44 ≡ false) × (eqb c 59 ≡ false)
+abbrev goes_on : ℕ → Bool
+goes_on c = not (eqb c 44) && not (eqb c 59)
 
-is_digit : (d : ℕ) → d < 10 → Digit (digit d)
-is_digit d h = (ne_eqb (48 + d) 44 (λ e. omega arith), ne_eqb (48 + d) 59 (λ e. omega arith))
+digit_goes_on : (d : ℕ) → d < 10 → goes_on (digit d) ≡ true
+digit_goes_on d h = rw (ne_eqb (48 + d) 44 (λ e. omega arith), ne_eqb (48 + d) 59 (λ e. omega arith))
 
 abbrev value_from : ℕ → List ℕ → ℕ
 value_from value text = foldl (λ v c. 10 * v + (c - 48)) value text
 
-digits_read : (value : ℕ) (text rest : List ℕ) → Each Digit text → numbers value (text ++ rest) ≡ numbers (value_from value text) rest
-unfolding numbers
+digits_read : (value : ℕ) (text rest : List ℕ) → every goes_on text ≡ true → numbers value (text ++ rest) ≡ numbers (value_from value text) rest
+unfolding numbers every
 digits_read value [] rest d = refl
-digits_read value (c ∷ cs) rest d = rw (d.0.0, d.0.1) (digits_read (10 * value + (c - 48)) cs rest d.1)
+digits_read value (c ∷ cs) rest d =
+    let (here, later) = both_hold (goes_on c) (every goes_on cs) d in
+    let (no_comma, no_end) = both_hold (not (eqb c 44)) (not (eqb c 59)) here in
+    rw (not-true (eqb c 44) no_comma, not-true (eqb c 59) no_end) (digits_read (10 * value + (c - 48)) cs rest later)
 
 value_read : (n : ℕ) → value_from 0 (decimal n) ≡ n
 unfolding value_of
 value_read n = value_decimal n
 
 number_read : (n : ℕ) (rest : List ℕ) → numbers 0 (decimal n ++ rest) ≡ numbers n rest
-number_read n rest = digits_read 0 (decimal n) rest (only_digits Digit is_digit n) ∙ ap (λ (v : ℕ). numbers v rest) (value_read n)
+number_read n rest = digits_read 0 (decimal n) rest (each_digit goes_on digit_goes_on n) ∙ ap (λ (v : ℕ). numbers v rest) (value_read n)
 
 numbers_read : (n : ℕ) (ns : List ℕ) → numbers 0 (decimal n ++ (listed ns ++ 59 ∷ [])) ≡ n ∷ ns
 unfolding numbers listed

@@ -49,7 +49,8 @@ all_clear (f ∷ fs) each = (here, all_clear fs (λ row. without (code row) f fs
 pub none_lost : NoneLost
 none_lost fs e = all_clear fs (λ row. passed row fs e)
 
-no_number : (refusal : Option Refusal) → number_or_0 refusal ≡ 0 → refusal ≡ None
+-- No refusal has the number 0.
+pub no_number : (refusal : Option Refusal) → number_or_0 refusal ≡ 0 → refusal ≡ None
 no_number None e = refl
 no_number (Some row) e = absurd (eqb-false (number_of row) 0 (numbered_from_1 row) e)
 

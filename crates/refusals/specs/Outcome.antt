@@ -1,5 +1,6 @@
--- What a call answers, and what it leaves in a lent output, by its refusal, and which of two refusals it answers.
-use Rattle.std.specs.Prelude.{ℕ, Bool, cond, Option, Some, None, Result, Ok, Err, List}
+-- What a call answers, and what it leaves in a lent output, by its refusal, which of two refusals it answers, and what an array of its own
+-- begins as.
+use Rattle.std.specs.Prelude.{ℕ, Bool, cond, Option, Some, None, Result, Ok, Err, List, replicate}
 use Rattle.lists.specs.Output.{put}
 use Rattle.refusals.specs.declared.Refusal.{Refusal}
 use Rattle.refusals.specs.Refusal.{number_of}
@@ -28,3 +29,7 @@ or_later (Some row) later = Some row
 -- One test of a call.
 abbrev pub refused_if : Bool → Refusal → Result (Unit {0}) Refusal
 refused_if met row = cond met (Err row) (Ok tt)
+
+-- An array of a call's own, for as many positions as row 7 lets pass, as it begins.
+abbrev pub zeros : List ℕ
+zeros = replicate 1024 0

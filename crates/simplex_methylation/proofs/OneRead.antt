@@ -5,7 +5,7 @@
 --     added_everywhere, added_aligned     what the code adds is what the definition does
 -- Assumes nothing.
 use mathlib.Core.Path.{◌≡◌, refl, ap, ap₂, ◌∙◌}
-use mathlib.Core.Bool.{Bool, true, false, cond, not, ◌&&◌}
+use mathlib.Core.Bool.{Bool, true, false, cond, not, ◌&&◌, and-false}
 use mathlib.Core.List.{List, []}
 use Rattle.std.proofs.Common.{Some, None}
 use Prim.Native.Nat.{ℕ, ◌+◌, ◌-◌, ◌<◌, ◌≤◌, min}
@@ -67,10 +67,6 @@ pub own_length :
     → length bases ≡ places
 own_length read bytes {places} e h own = ap length own ∙ part_length read.offset places bytes (omega (arith, within read (length bytes) e))
 
-never : (b : Bool) → (b && false) ≡ false
-never true = refl
-never false = refl
-
 -- No reference base is the pattern's where there is none.
 none_informative : (pattern : ConversionPattern) → is_letter (pattern_bases pattern).reference 0 ≡ false
 unfolding is_letter upper
@@ -88,7 +84,7 @@ module _ (s : Setting) (read : SourceRead) where
 
     past_marks : (i : ℕ) → length aligned ≤ read.offset + i → looked letter_of s.reference aligned read.offset i ≡ false
     unfolding looked is_aligned
-    past_marks i h = rw (get_or-eq_default aligned 0 {n = read.offset + i} h) (never (informative letter_of s.reference i))
+    past_marks i h = rw (get_or-eq_default aligned 0 {n = read.offset + i} h) (and-false (informative letter_of s.reference i))
 
   module _ (inside : read_leaves (length s.bytes) read ≡ false) where
     reached : (i : ℕ) → i < read.length → reaches s.bytes i read ≡ true
@@ -135,8 +131,8 @@ module _ (s : Setting) (read : SourceRead) where
           (λ i l. ap₂ (λ (x y : Bool). x && y) (same_look read.offset places aligned marked i l letter_of s.reference) (same_base read.offset places s.bytes fits i l letter) ∙ rw (reached i (omega arith), e) refl)
           (λ i o l. by_place i read.length
           (λ in_read. by_place i (length s.reference)
-          (λ in_reference. rw (e, past_marks aligned i (omega arith)) (never (reaches s.bytes i read)))
-          (λ past. rw (e, past_reference aligned i past) (never (reaches s.bytes i read))))
+          (λ in_reference. rw (e, past_marks aligned i (omega arith)) (and-false (reaches s.bytes i read)))
+          (λ past. rw (e, past_reference aligned i past) (and-false (reaches s.bytes i read))))
           (λ past. rw (past_read i past))))
 
     -- The same for both counts. b are the letters that the code has.
