@@ -20,6 +20,8 @@ use vanilla_caller::VanillaConsensusRead;
 // Combines strands that may be annotated. Evidence is written of annotated strands only. Refuses by 7, 8, 12.
 // Of a list only whether there is one counts here. A and B are two operands, which each caller has as two; their outputs come as
 // three structs: one of these was tried, and who makes it learns nothing of what its slices hold.
+// Inlined for speed (duplex_record).
+#[inline(always)]
 pub fn combine_strands_annotated(
     a: VanillaConsensusRead,
     b: VanillaConsensusRead,

@@ -137,6 +137,7 @@ abbrev Expected : CtInput → ℕ → ℕ → Bool → ℕ → Option MoleculeCa
 Expected ct a b last raw x =
     cond (is_call_of (Some CToT) x) (cond last letter_c (cond (is_b ct) b a)) (cond (is_call_of (Some GToA) x) (cond last (cond (is_b ct) a b) letter_g) raw) ≡ shown last raw x
 
+-- What `expected_base` answers by its tests, for its check, which is told of this law.
 pub expects :
     (ct : CtInput) (a qa b qb : ℕ) (last : Bool)
     → cond (is_call_of (Some CToT) (call_at ct a b)) (cond last letter_c (cond (is_b ct) b a)) (cond (is_call_of (Some GToA) (call_at ct a b)) (cond last (cond (is_b ct) a b) letter_g) (uncalled a qa b qb).raw) ≡ expected ct a qa b qb last

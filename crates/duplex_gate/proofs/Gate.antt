@@ -20,7 +20,8 @@ abbrev pub or_long : Option Refusal → Refusal
 or_long None = TooLong
 or_long (Some row) = row
 
-abbrev rows : Bool → Bool → Bool → Bool → Option Refusal → Option Refusal
+-- The thresholds' rows, and what is behind them.
+abbrev pub rows : Bool → Bool → Bool → Bool → Option Refusal → Option Refusal
 rows a b c d e = cond a (Some NoThresholds) (cond b (Some TooManyThresholds) (cond c (Some XyAboveTotal) (cond d (Some YxAboveXy) e)))
 
 module _ (n : ℕ) (ab ba ts : List ℕ) where

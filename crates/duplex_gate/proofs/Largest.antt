@@ -1,4 +1,5 @@
 -- The largest depth within a record, from that of a front and that of what is behind it.
+--     cut        within the record, and to where the strand reaches
 --     all_of     of a front and of the rest
 -- Assumes nothing.
 use mathlib.Core.Path.{◌≡◌, refl, sym, ap, ◌∙◌}
@@ -23,7 +24,7 @@ both (suc k) j (x ∷ xs) a =
     let one : suc (k + j) ≡ suc k + j = omega arith in
     both k j xs (max a x) ∙ ap (λ (m : ℕ). foldl max a (take m (x ∷ xs))) one
 
-cut : (n : ℕ) (xs : List ℕ) {end : ℕ} → end ≡ min n (length xs) → take end xs ≡ take n xs
+pub cut : (n : ℕ) (xs : List ℕ) {end : ℕ} → end ≡ min n (length xs) → take end xs ≡ take n xs
 cut zero xs {end} e =
     let none : end ≡ 0 = omega (arith, e) in
     ap (λ (m : ℕ). take m xs) none

@@ -2,13 +2,26 @@
 // duplex_depths, duplex_min_reads and duplex_reads.
 #![tactic(auto)]
 
-ghost use Rattle.std.specs.Prelude.{◌≡◌};
+ghost use Rattle.std.specs.Prelude.{◌≡◌, max};
+ghost use Rattle.numbers.specs.Numbers.{largest};
 ghost use Rattle.duplex_gate.specs.ConsensusGate.{largest_within, depth_counts, consensus_gate};
 
 use duplex_depths::RecordDepths;
 use duplex_reads::{StrandCounts, gate_answer};
 use numbers::largest;
 use refusals::{Refusal, refuse};
+
+// Each count, or the largest of more depths of its strand.
+// Not inlined, for speed: with two more loops in it, largest_within keeps less in registers.
+#[inline(never)]
+fn or_larger(counts: StrandCounts, more_ab: &[u16], more_ba: &[u16]) -> StrandCounts
+    ensures { (result.a ≡ max counts.a (largest more_ab.now)) × (result.b ≡ max counts.b (largest more_ba.now)) }
+{
+    StrandCounts {
+        a: counts.a.max(u32::from(largest(more_ab))),
+        b: counts.b.max(u32::from(largest(more_ba))),
+    }
+}
 
 // The largest of each strand's depths within the record's length, uncapped; 0 where there are none.
 // One loop goes over both strands as far as both reach, for speed: `largest` of each strand takes a third longer at 300 positions,
@@ -26,10 +39,14 @@ fn largest_within(r: RecordDepths) -> StrandCounts
         of_ab = of_ab.max(of_a);
         of_ba = of_ba.max(of_b);
     }
-    StrandCounts {
-        a: u32::from(of_ab.max(largest(&ab[both..ab_end]))),
-        b: u32::from(of_ba.max(largest(&ba[both..ba_end]))),
+    let counts = StrandCounts {
+        a: u32::from(of_ab),
+        b: u32::from(of_ba),
+    };
+    if ab_end == ba_end {
+        return counts;
     }
+    or_larger(counts, &ab[both..ab_end], &ba[both..ba_end])
 }
 
 // The largest depths of a record's strands, which take the place of read counts. Refuses by 7.

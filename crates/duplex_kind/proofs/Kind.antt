@@ -1,17 +1,20 @@
 -- What a record's kind says of what was given.
+--     few_record                it has no more than 1,024 positions where neither strand has
 --     taken                     the answer of `record_kind` where no row refuses
 --     is_refused, is_none       what such an answer says: the row, or that there is none and the kind
 --     is_ab, is_ba, is_both     the same with the record's length, and that the strands that count pass rows 7 and 8
 -- Assumes nothing.
 use mathlib.Core.Path.{◌≡◌, refl, sym, ap, subst, ◌∙◌}
 use mathlib.Core.Bool.{Bool, true, false, cond, ◌&&◌, true≢false}
-use Prim.Native.Nat.{ℕ, min}
+use Prim.Native.Nat.{ℕ, ◌≤◌, min}
+use native.Mathlib.Omega.{arith}
 use Rattle.std.proofs.Common.{Option, Some, None, Ok, Err}
 use Rattle.refusals.specs.declared.Refusal.{Refusal}
 use Rattle.refusals.specs.Refusal.{refused}
 use Rattle.refusals.specs.Outcome.{answer}
 use Rattle.refusals.proofs.Claims.{none_lost}
 use Rattle.refusals.proofs.Condition.{both_hold, neither}
+use Rattle.refusals.proofs.Outcome.{refused_by, passed_by}
 use Rattle.vanilla_caller.specs.Strand.{lengths, strand_too_long, strand_ragged}
 use Rattle.duplex_kind.specs.Kind.{Strand, given, positions, record_length, covered, kind_of, long, uneven, strand_faults, record_kind}
 use Rattle.duplex_kind.specs.declared.DuplexConsensus.{DuplexConsensus}
@@ -43,14 +46,14 @@ pub record Passes (s : Strand) : Type 0 where
   pub not_long : strand_too_long (lengths s.annotation s.arrays) ≡ false
   pub not_uneven : strand_ragged (lengths s.annotation s.arrays) ≡ false
 
--- An answer that is no refusal, and one that is.
-opened : {A : Type 0} (row : Option Refusal) (k : A) {r : A} → answer row k ≡ Ok r → (row ≡ None) × (k ≡ r)
-opened None k e = (refl, cc)
-opened (Some row) k e = absurd cc
-
-turned_down : {A : Type 0} (row : Option Refusal) (k : A) {m : Refusal} → answer row k ≡ Err m → row ≡ Some m
-turned_down None k e = absurd cc
-turned_down (Some row) k e = cc
+pub few_record : (a b : Strand) → positions a ≤ 1024 → positions b ≤ 1024 → record_length a b ≤ 1024
+few_record a b ha hb = go a.present b.present
+  where
+    go : (pa pb : Bool) → cond pa (cond pb (min (positions a) (positions b)) (positions a)) (cond pb (positions b) 0) ≤ 1024
+    go true true = omega arith
+    go true false = ha
+    go false true = hb
+    go false false = omega arith
 
 module _ (a b : Strand) where
   abbrev says_of : Option DuplexConsensus → Type 0
@@ -82,24 +85,24 @@ module _ (a b : Strand) where
         )
 
     pub is_refused : {m : Refusal} → record_kind a b listed count leaving ≡ Err m → refused_given ≡ Some m
-    is_refused e = turned_down refused_given (kind_of a b) e
+    is_refused e = refused_by refused_given (kind_of a b) e
 
     module _ {m : ℕ} where
       pub is_ab : record_kind a b listed count leaving ≡ Ok (Some (Ab m)) → (refused_given ≡ None) × (kind_of a b ≡ Some (Ab (positions a))) × Passes a
       is_ab e =
-          let (z, k) = opened refused_given (kind_of a b) e in
+          let (z, k) = passed_by refused_given (kind_of a b) e in
           let (here, length) = of_kind k in
           (z, rw length at k, (strands_pass z).0 (there a here))
 
       pub is_ba : record_kind a b listed count leaving ≡ Ok (Some (Ba m)) → (refused_given ≡ None) × (kind_of a b ≡ Some (Ba (positions b))) × Passes b
       is_ba e =
-          let (z, k) = opened refused_given (kind_of a b) e in
+          let (z, k) = passed_by refused_given (kind_of a b) e in
           let (here, length) = of_kind k in
           (z, rw length at k, (strands_pass z).1 (there b here))
 
       pub is_both : record_kind a b listed count leaving ≡ Ok (Some (Both m)) → (refused_given ≡ None) × (kind_of a b ≡ Some (Both (min (positions a) (positions b)))) × Passes a × Passes b
       is_both e =
-          let (z, k) = opened refused_given (kind_of a b) e in
+          let (z, k) = passed_by refused_given (kind_of a b) e in
           let (here, other, length) = of_kind k in
           let in_a = there a here in
           let in_b = there b other in
@@ -107,4 +110,4 @@ module _ (a b : Strand) where
           (z, subst (λ (n : ℕ). kind_of a b ≡ Some (Both n)) (length ∙ shorter) k, (strands_pass z).0 in_a, (strands_pass z).1 in_b)
 
     pub is_none : record_kind a b listed count leaving ≡ Ok None → (refused_given ≡ None) × (kind_of a b ≡ None)
-    is_none e = opened refused_given (kind_of a b) e
+    is_none e = passed_by refused_given (kind_of a b) e

@@ -35,6 +35,8 @@ pub struct GivenReads {
 }
 
 // What is given of a strand that may be absent.
+// Inlined, here and in record_kind, for speed (duplex_record).
+#[inline(always)]
 pub fn given_strand<'a>(s: Option<VanillaConsensusRead<'a>>) -> Option<GivenStrand<'a>>
     ensures { given_in result ≡ given (given_of s.entry) }
 {
@@ -93,6 +95,7 @@ fn is_uneven(s: Option<GivenStrand>) -> bool
 }
 
 // The kind of the record that two strands make, either of which may be absent, and how many positions it has. Refuses by 7, 8, 9, 10.
+#[inline(always)]
 pub fn record_kind(
     a: Option<GivenStrand>,
     b: Option<GivenStrand>,

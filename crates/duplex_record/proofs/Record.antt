@@ -8,14 +8,15 @@
 --     lent_single, lent_combined     what a call leaves, by the strands as they were lent
 -- Assumes nothing.
 use mathlib.Core.Path.{◌≡◌, refl, sym, ap, ◌∙◌, subst}
-use mathlib.Core.Bool.{Bool, true, false, ◌||◌}
+use mathlib.Core.Bool.{Bool, true, false}
 use mathlib.Core.List.{[], ◌∷◌}
 use Prim.Native.Nat.{ℕ, min}
 use Rattle.std.proofs.Common.{Option, Some, None, Result, Ok, Err}
+use Rattle.std.proofs.lemmas.Bool.{or_from}
 use Rattle.refusals.specs.declared.Refusal.{Refusal}
 use Rattle.refusals.specs.declared.Refusal.TheVariants.{TooLong, Ragged, TooManyReads, PartOutside, OutputTooShort}
 use Rattle.refusals.specs.Refusal.{◌if◌, refused}
-use Rattle.refusals.specs.Outcome.{answer}
+use Rattle.refusals.specs.Outcome.{answer, or_later}
 use Rattle.methylation.specs.Arrays.{evidence_arrays}
 use Rattle.duplex_molecule.specs.Molecule.{ct_input}
 use Rattle.duplex_outputs.specs.Outputs.{RecordArrays, record_lengths, record_too_short, LeavesRecord}
@@ -62,10 +63,6 @@ rows true uneven short h k = absurd cc
 rows false true short h k = absurd cc
 rows false false short h k = refl
 
-neither_holds : (x y : Bool) → x ≡ false → y ≡ false → (x || y) ≡ false
-neither_holds true y h k = absurd cc
-neither_holds false y h k = k
-
 -- A strand that passes rows 7 and 8 is refused alone only by 12.
 single_12 : (s : Strand) (out : RecordArrays) → Passes s → single_refused s.annotation s.arrays (first_strand out) ≡ only_12 (record_too_short (positions s) (record_lengths s.annotation None out))
 single_12 s out p = rows _ _ _ p.not_long p.not_uneven
@@ -75,7 +72,7 @@ both_12 :
     → Passes a
     → Passes b
     → combine_refused a.annotation a.arrays b.annotation b.arrays out ≡ only_12 (record_too_short (min (positions a) (positions b)) (record_lengths a.annotation b.annotation out))
-both_12 a b out p q = rows _ _ _ (neither_holds _ _ p.not_long q.not_long) (neither_holds _ _ p.not_uneven q.not_uneven)
+both_12 a b out p q = rows _ _ _ (or_from _ _ p.not_long q.not_long) (or_from _ _ p.not_uneven q.not_uneven)
 
 -- The record of this kind where the call that writes it refused nothing, or its refusal.
 abbrev pub made_by : DuplexConsensus → Result ℕ Refusal → Result (Option DuplexConsensus) Refusal
@@ -107,14 +104,9 @@ untouched row out = record {
   b = no_evidence row same;
 }
 
--- The first of two refusals.
-abbrev or_else : Option Refusal → Option Refusal → Option Refusal
-or_else None other = other
-or_else (Some row) other = Some row
-
 five : (long uneven many outside short : Bool)
     → refused ((TooLong if long) ∷ (Ragged if uneven) ∷ (TooManyReads if many) ∷ (PartOutside if outside) ∷ (OutputTooShort if short) ∷ [])
-    ≡ or_else (refused ((TooLong if long) ∷ (Ragged if uneven) ∷ (TooManyReads if many) ∷ (PartOutside if outside) ∷ [])) (only_12 short)
+    ≡ or_later (refused ((TooLong if long) ∷ (Ragged if uneven) ∷ (TooManyReads if many) ∷ (PartOutside if outside) ∷ [])) (only_12 short)
 five true uneven many outside short = refl
 five false true many outside short = refl
 five false false true outside short = refl
@@ -132,16 +124,16 @@ module _ (a b : Strand) (listed : Bool) (count : ℕ) (leaving : Bool) (before :
   abbrev row : Option Refusal
   row = duplex_refused a b listed count leaving before
 
-  joined : row ≡ or_else early (only_12 (outputs_short a b before (kind_of a b)))
+  joined : row ≡ or_later early (only_12 (outputs_short a b before (kind_of a b)))
   joined = five _ _ _ _ _
 
   -- Row 12 is left, of a record of kind k.
   left_12 : {k : Option DuplexConsensus} → early ≡ None → kind_of a b ≡ k → row ≡ only_12 (outputs_short a b before k)
-  left_12 z k = joined ∙ ap (λ (r : Option Refusal). or_else r (only_12 (outputs_short a b before (kind_of a b)))) z ∙ ap (λ (made : Option DuplexConsensus). only_12 (outputs_short a b before made)) k
+  left_12 z k = joined ∙ ap (λ (r : Option Refusal). or_later r (only_12 (outputs_short a b before (kind_of a b)))) z ∙ ap (λ (made : Option DuplexConsensus). only_12 (outputs_short a b before made)) k
 
   pub turned_down : {refusal : Refusal} → record_kind a b listed count leaving ≡ Err refusal → DuplexAs a b listed count leaving uncounted before before (Err refusal)
   turned_down {refusal} e =
-      let first : row ≡ Some refusal = joined ∙ ap (λ (r : Option Refusal). or_else r (only_12 (outputs_short a b before (kind_of a b)))) (is_refused a b listed count leaving e) in
+      let first : row ≡ Some refusal = joined ∙ ap (λ (r : Option Refusal). or_later r (only_12 (outputs_short a b before (kind_of a b)))) (is_refused a b listed count leaving e) in
       record { answered = ap (λ (r : Option Refusal). answer r (kind_of a b)) (sym first); outputs = leaves_equal (sym first) refl (record_refused refusal _ _) }
 
   -- What is answered where row 12 does not refuse either, and where it does.

@@ -26,6 +26,8 @@ pub fn common_length(a: Lengths, b: Lengths) -> usize
 }
 
 // How many positions of strands and outputs of these lengths are combined. Refuses by 7, 8, 12.
+// Inlined for speed (duplex_record).
+#[inline(always)]
 pub fn combined_length(a: Lengths, b: Lengths, out: RecordLengths) -> Result<usize, Refusal>
     ensures { result ≡ answer (refused (combine_faults a b out)) (common_length a b) }
 {
