@@ -12,7 +12,7 @@ ghost use Rattle.molecule_errors.specs.Run.{run_in, count_listed, listed};
 
 use duplex_consensus::combined_bases;
 use duplex_kind::{DuplexConsensus, GivenReads};
-use molecule_reads::{ReadCount, count_reads, count_run_errors};
+use molecule_reads::{ReadCount, count_reads, count_run};
 use refusals::Refusal;
 use vanilla_caller::VanillaConsensusRead;
 
@@ -51,6 +51,6 @@ pub fn count_errors<E: Copy>(
         (combined_of (given_of a.entry) (given_of b.entry) (counted_positions (is_some run.entry) made)) errors.old }
 {
     if let (Ok(Some(DuplexConsensus::Both(n))), Some(run)) = (made, run) {
-        count_run_errors(run, combined_bases(a, b, n), errors);
+        count_run(run, combined_bases(a, b, n), errors);
     }
 }

@@ -1,5 +1,5 @@
 pub mod Run
 pub mod Counting
-pub mod Errors
+pub mod Walk
 pub mod Claims
 pub mod Next

@@ -3,7 +3,7 @@
 // Uses lists, refusals, fields, molecule_fields and source_reads.
 #![tactic(auto)]
 
-ghost use Rattle.std.specs.Prelude.{◌≡◌, drop};
+ghost use Rattle.std.specs.Prelude.{◌≡◌, [], ◌∷◌, drop};
 ghost use Rattle.source_reads.specs.Arrays.{combined_in, shown_in};
 ghost use Rattle.source_reads.specs.Reads.{shown_errors, counted_errors};
 ghost use Rattle.molecule_reads.specs.Run.{reads_of, next_read, counted};
@@ -11,7 +11,9 @@ ghost use Rattle.molecule_reads.specs.Run.{reads_of, next_read, counted};
 use fields::next_field;
 use molecule_fields::{is_read, read_flags};
 use refusals::{Refusal, refuse};
-use source_reads::{CombinedBases, ExpectedBases, ShownBases, SourceRead, add_read_errors};
+use source_reads::{
+    CombinedBases, ExpectedBases, ShownBases, SourceRead, add_read_errors, counted_within,
+};
 
 // The bytes from a place of a run on; past its end none.
 fn bytes_from(run: &[u8], at: usize) -> &[u8]
@@ -47,17 +49,32 @@ pub struct ReadCount {
     pub whole: Result<(), Refusal>,
 }
 
-// How many reads a run has.
-#[tactic(auto, using(crate::proofs::Run::next_further, crate::proofs::Run::next_within, crate::proofs::Run::run_end, crate::proofs::Run::run_broken, crate::proofs::Counting::begin, crate::proofs::Counting::done, crate::proofs::Counting::done_broken))]
-pub fn count_reads(run: &[u8]) -> ReadCount
-    ensures { result ≡ counted run.now }
+// Adds the errors of a read at the first positions, no more than there are numbers, against what it should show. Where nothing is shown,
+// as of a run that is only counted, its bases are not looked for.
+#[tactic(auto, using(source_reads::proofs::Counted::none_shown))]
+fn add_shown_read(read: SourceRead, run: &[u8], shown: ShownBases<'_>, errors: &mut [u16])
+    ensures { errors.new ≡ shown_errors (read ∷ []) run.now (shown_in shown.entry) errors.old }
+{
+    if shown.positions == 0 {
+        return;
+    }
+    add_read_errors(read, run, shown, errors);
+}
+
+// Walks a run once: how many reads it has, and the errors of each added. One walk for both: where a read is depends on those before it, so
+// that a second walk would wait for each read's bytes again. Of a broken run, the reads before the break count.
+#[tactic(auto, using(crate::proofs::Run::next_further, crate::proofs::Run::next_within, crate::proofs::Run::run_end, crate::proofs::Run::run_broken, crate::proofs::Walk::same_length, crate::proofs::Walk::all_counted, crate::proofs::Walk::broken_counted))]
+fn count_shown_run(run: &[u8], shown: ShownBases<'_>, errors: &mut [u16]) -> ReadCount
+    ensures count { result ≡ counted run.now }
+    ensures errors { errors.new ≡ shown_errors (reads_of run.now) run.now (shown_in shown.entry) errors.old }
 {
     let mut count = 0;
     let mut at = 0;
-    // No index is counted up: where a read is depends on those before it.
+    // No index is counted up: a walk goes by what was read.
     loop {
         match next_read(run, at) {
             Ok(Some(read)) => {
+                add_shown_read(read, run, shown, errors);
                 count += 1;
                 at = read.offset + read.length;
             }
@@ -73,25 +90,28 @@ pub fn count_reads(run: &[u8]) -> ReadCount
     }
 }
 
-// Adds the errors of each read of a run at the first positions, no more than there are numbers, against what it should show.
-#[tactic(auto, using(crate::proofs::Run::run_next, crate::proofs::Run::next_further, crate::proofs::Run::next_within, crate::proofs::Run::run_end, crate::proofs::Run::run_broken, crate::proofs::Errors::begin, crate::proofs::Errors::one_more, crate::proofs::Errors::done, crate::proofs::Errors::same_length))]
-fn count_shown_run(run: &[u8], shown: ShownBases<'_>, errors: &mut [u16])
-    ensures { errors.new ≡ shown_errors (reads_of run.now) run.now (shown_in shown.entry) errors.old }
+// How many reads a run has.
+pub fn count_reads(run: &[u8]) -> ReadCount
+    ensures { result ≡ counted run.now }
 {
-    let mut place = 0;
-    // No index is counted up: where a read is depends on those before it.
-    while let Ok(Some(read)) = next_read(run, place) {
-        add_read_errors(read, run, shown, errors);
-        place = read.offset + read.length;
-    }
+    let nothing = ShownBases {
+        positions: 0,
+        first: &[],
+        last: &[],
+    };
+    count_shown_run(run, nothing, &mut [])
 }
 
-// Adds the errors of each read of a run at the first positions: as many as are asked for, no more than each array has, and no more
-// than a strand may have. Of a broken run, the reads before the break count.
-#[tactic(auto, using(source_reads::proofs::Counted::as_expected))]
-pub fn count_run_errors(run: &[u8], s: CombinedBases<'_>, errors: &mut [u16])
-    ensures { errors.new ≡ counted_errors (reads_of run.now) run.now (combined_in s.entry) errors.old }
+// How many reads a run has, and, in the same walk, the errors of each added at the first positions: as many as are asked for, no more
+// than each array has, and no more than a strand may have. Of a broken run, the reads before the break count.
+#[tactic(auto, using(source_reads::proofs::Counted::none_counted, source_reads::proofs::Counted::as_expected))]
+pub fn count_run(run: &[u8], s: CombinedBases<'_>, errors: &mut [u16]) -> ReadCount
+    ensures count { result ≡ counted run.now }
+    ensures errors { errors.new ≡ counted_errors (reads_of run.now) run.now (combined_in s.entry) errors.old }
 {
+    if counted_within(s, errors.len()) == 0 {
+        return count_reads(run);
+    }
     let expected = ExpectedBases::counted(s, errors.len());
-    count_shown_run(run, expected.shown(), errors);
+    count_shown_run(run, expected.shown(), errors)
 }

@@ -2,6 +2,7 @@
 --     all_within, few_positions     there is room for the positions that are counted, and they are no more than 1,024
 --     one_read             of one read: the errors of its bases
 --     either, one_shown    the same by what reads without flag 0x80 should show and those with it
+--     none_shown           where nothing is shown, nothing
 --     same                 as many numbers as there were
 --     none_yet, next, all  a loop over the reads: at its start, after one more turn, and at its end
 --     after_one            a count of one read, then of the others
@@ -152,6 +153,14 @@ module _ (s : ShownArrays) (errors : List ℕ) where
       ∙ ap (λ (l : List ℕ). bases_errors m own (λ i. get_or l i 0) errors) c
       ∙ ap (λ (l : List ℕ). bases_errors m l (λ i. shown_at s i (is_set read.flags last_segment)) errors) p
       ∙ one_read bytes read (shown_at s) shown_length errors (f ∙ rw (all, p)) room_for
+
+  -- Where nothing is shown, nothing is added.
+  pub none_shown : (reads : List SourceRead) (bytes : List ℕ) → s.positions ≡ 0 → errors ≡ shown_errors reads bytes s errors
+  unfolding shown_errors added_errors put tabulate
+  none_shown reads bytes e =
+      let first = smallest_le (s.positions ∷ length s.first ∷ length s.last ∷ length errors ∷ []) 0 (lit< tt) in
+      let none : shown_length ≡ 0 = omega (arith, e, first) in
+      sym (ap (λ (m : ℕ). added_errors m bytes (shown_at s) reads errors) none)
 
 -- ---- some reads, one after the other
 module _ (n : ℕ) (bytes : List ℕ) (expected : ℕ → Bool → ℕ) where

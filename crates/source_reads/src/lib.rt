@@ -94,8 +94,8 @@ pub fn counted_length(
     within_b.min(errors).min(MAX_POSITIONS)
 }
 
-// The same of two strands' arrays.
-fn counted_within(s: CombinedBases<'_>, errors: usize) -> usize
+// The same of two strands' arrays. Where it is 0 nothing is counted, and no expected bases need be worked out.
+pub fn counted_within(s: CombinedBases<'_>, errors: usize) -> usize
     ensures { result ≡ counted_length (combined_in s.entry) errors }
 {
     counted_length(
