@@ -40,6 +40,10 @@ kept_unconverted n ct a b annotation s = only_if (is_annotated annotation) (tabu
 unfoldable pub kept_converted : ℕ → CtInput → Arrays → Arrays → Option ConversionPattern → Arrays → List ℕ
 kept_converted n ct a b annotation s = only_if (is_annotated annotation) (tabulate n (λ i. (evidence_of ct a b annotation s i).converted))
 
+-- What is too short for the marks of n positions.
+abbrev pub marks_short : ℕ → List ℕ → List ℕ → List ℕ → Bool
+marks_short n a b marks = arrays_short n false [] (length a ∷ length b ∷ length marks ∷ [])
+
 -- What is too short for the evidence of n positions.
 abbrev pub evidence_short : ℕ → Arrays → Arrays → Arrays → EvidenceArrays → Bool
 evidence_short n a b s out =

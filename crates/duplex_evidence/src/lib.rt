@@ -8,8 +8,8 @@ ghost use Rattle.lists.specs.Table.{tabulate};
 ghost use Rattle.methylation.specs.Arrays.{HasPlaces};
 ghost use Rattle.methylation.specs.Outputs.{evidence_out, SameEvidence};
 ghost use Rattle.vanilla_caller.specs.Strand.{annotation_in, arrays_in};
-ghost use Rattle.duplex_arrays.specs.Positions.{arrays_short};
-ghost use Rattle.duplex_evidence.specs.Kept.{mark_of, marked_at, EvidenceAs};
+ghost use Rattle.duplex_arrays.specs.Positions.{arrays_short, unless_short};
+ghost use Rattle.duplex_evidence.specs.Kept.{mark_of, marked_at, marks_short, EvidenceAs};
 
 use duplex_call::Site;
 use duplex_molecule::CtInput;
@@ -58,6 +58,25 @@ fn fill_marks(
     }
 }
 
+// Writes the marks that a strand of this pattern keeps at the first n positions, and no counts; nothing where an array is shorter than n.
+// A strand's counts may be bytes: who has those writes them by these marks. The bases and n come apart, as in `write_evidence`.
+#[tactic(auto, using(lists::proofs::Output::put_none), unfolding(duplex_arrays::specs::Positions::arrays_short, duplex_arrays::specs::Positions::unless_short))]
+pub fn write_marks(
+    pattern: ConversionPattern,
+    ct: CtInput,
+    a_bases: &[u8],
+    b_bases: &[u8],
+    n: usize,
+    marks_out: &mut [u8],
+)
+    ensures { marks_out.new ≡ put (unless_short (marks_short n a_bases.now b_bases.now marks_out.old) (tabulate n (mark_of ct (Some pattern) a_bases.now b_bases.now))) marks_out.old }
+{
+    if (a_bases.len() < n) | ((b_bases.len() < n) | (marks_out.len() < n)) {
+        return;
+    }
+    fill_marks(pattern, ct, a_bases, b_bases, n, marks_out);
+}
+
 // The counts of the first n positions, where those are marked.
 #[tactic(auto, using(lists::proofs::Output::begin, lists::proofs::Table::length_tabulate, lists::proofs::Told::next_table))]
 fn fill_counts(own: EvidenceSlices, n: usize, out: &mut EvidenceOutputs<'_>)
@@ -83,6 +102,8 @@ fn fill_counts(own: EvidenceSlices, n: usize, out: &mut EvidenceOutputs<'_>)
 // shorter than n. The marks come first, since bytes alone go 16 at once, then each count by its mark.
 // Of A and B the bases are looked at, of the strand its two counts; other arrays may be empty. The strands and n come apart: that
 // the arrays reach n is what is tested here.
+// Inlined for speed (duplex_record): most strands have no annotation.
+#[inline(always)]
 #[tactic(auto, using(lists::proofs::Output::put_none, crate::proofs::Kept::by_marks, lists::proofs::Output::put_holds, lists::proofs::Table::length_tabulate), unfolding(duplex_arrays::specs::Positions::arrays_short, duplex_arrays::specs::Positions::unless_short, lists::specs::Part::only_if, crate::specs::Kept::kept_marks, crate::specs::Kept::kept_unconverted, crate::specs::Kept::kept_converted))]
 pub fn write_evidence(
     ct: CtInput,

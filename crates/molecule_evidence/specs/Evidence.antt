@@ -1,8 +1,11 @@
 -- A strand's evidence as bytes, nine for each position: its mark and its two counts, unconverted and converted, of four bytes each,
 -- low byte first. So an encoded annotation has it, behind the pattern (document 01's tray, fields 14 and 24).
-use Rattle.std.specs.Prelude.{ℕ, List, ◌∷◌, ◌++◌, length, take, drop, get_or}
+use Rattle.std.specs.Prelude.{ℕ, min, ◌/◌, Bool, cond, List, ◌∷◌, ◌++◌, length, take, drop, get_or, replicate}
+use Rattle.methylation.specs.Arrays.{informative}
+use Rattle.methylation.specs.Methylation.{evidence_if}
+use Rattle.methylation.specs.declared.Evidence.{Evidence}
 use Rattle.byte_numbers.specs.Bytes.{number_of, bytes_of}
-use Rattle.byte_numbers.specs.Groups.{joined, by_group}
+use Rattle.byte_numbers.specs.Groups.{group, joined, by_group}
 
 -- The bytes of a position: mark, unconverted, converted.
 unfoldable pub position_bytes : ℕ → ℕ → ℕ → List ℕ
@@ -31,3 +34,22 @@ unconverted_of bytes = counts_of 1 bytes
 
 abbrev pub converted_of : List ℕ → List ℕ
 converted_of bytes = counts_of 5 bytes
+
+-- The evidence that a position's bytes say, kept or clear, and its bytes then.
+abbrev pub kept_in : Bool → List ℕ → Evidence
+kept_in kept position = evidence_if kept (count_in 1 position) (count_in 5 position)
+
+abbrev pub bytes_in : Evidence → List ℕ
+bytes_in e = position_bytes e.mark e.unconverted e.converted
+
+-- The bytes themselves: those of a position, or of one that is clear.
+abbrev pub kept_or_clear : Bool → List ℕ → List ℕ
+kept_or_clear kept position = cond kept position (replicate 9 0)
+
+-- The bytes of the first n positions of some bytes, each kept where another mark than theirs says informative, clear where not.
+unfoldable pub marked_bytes : ℕ → List ℕ → List ℕ → List ℕ
+marked_bytes n marks bytes = joined n (λ i. bytes_in (kept_in (informative (get_or marks i 0)) (group 9 bytes i)))
+
+-- As many as there are marks and positions, and as there is room for.
+abbrev pub positions_marked : List ℕ → List ℕ → List ℕ → ℕ
+positions_marked marks bytes out = min (min (length out / 9) (length marks)) (length bytes / 9)

@@ -8,7 +8,7 @@ ghost use Rattle.lists.specs.Output.{put};
 ghost use Rattle.methylation.specs.Arrays.{evidence_in};
 ghost use Rattle.methylation.specs.Outputs.{SameEvidence};
 ghost use Rattle.molecule_evidence.specs.Buffers.{zero_evidence, buffers_in};
-ghost use Rattle.molecule_evidence.specs.Evidence.{position_bytes, evidence_bytes, marks_of, counts_of, unconverted_of, converted_of};
+ghost use Rattle.molecule_evidence.specs.Evidence.{position_bytes, evidence_bytes, kept_or_clear, kept_in, marked_bytes, positions_marked, marks_of, counts_of, unconverted_of, converted_of};
 
 use byte_numbers::LittleEndian;
 use lists::get_or;
@@ -16,6 +16,9 @@ use methylation::{Evidence, EvidenceOutputs, EvidenceSlices};
 
 // The bytes of a position.
 pub const POSITION_BYTES: usize = 9;
+
+// Those of one without evidence.
+const CLEAR: [u8; POSITION_BYTES] = [0; POSITION_BYTES];
 
 // Not by `read_counts`, nor that by byte_numbers's `read`: a mark is one byte, of which no LittleEndian is made, and numbers that stand
 // side by side need no place in a position.
@@ -122,5 +125,44 @@ pub fn write_evidence(evidence: EvidenceSlices<'_>, out: &mut [u8])
             converted: get_or(evidence.converted, i, 0),
         };
         store_position(position, POSITION_BYTES * i, out);
+    }
+}
+
+// The bytes of a position, or of one that is clear. What is chosen is where bytes are read from: of counts that were read the compiler
+// makes a branch for each position, which cannot be foretold.
+fn kept_or_clear(position: &[u8], kept: bool) -> &[u8]
+    ensures { result.now ≡ kept_or_clear kept position.now }
+{
+    if kept { position } else { &CLEAR }
+}
+
+// The evidence of a position by its bytes: kept, or clear. An array for all positions' counts, between the bytes that are read and those
+// that are written, takes as long as both.
+#[tactic(auto, using(crate::proofs::Kept::kept_position))]
+fn evidence_in(position: &[u8], kept: bool) -> Evidence
+    requires { length position.now ≡ 9 }
+    ensures { result ≡ kept_in kept position.now }
+{
+    let bytes = kept_or_clear(position, kept);
+    Evidence {
+        mark: u8::from(kept),
+        unconverted: u32::from_bytes(&bytes[1..5]),
+        converted: u32::from_bytes(&bytes[5..9]),
+    }
+}
+
+// From bytes to bytes: writes the evidence of a position for each mark, its counts as they are given where the mark is not 0, clear where
+// it is; as many positions as there are, and as there is room for. The marks that were given stand in the bytes too, and are not looked at.
+pub fn write_marked(marks: &[u8], bytes: &[u8], out: &mut [u8])
+    ensures { out.new ≡ put (marked_bytes (positions_marked marks.now bytes.now out.old) marks.now bytes.now) out.old }
+{
+    let n = (out.len() / POSITION_BYTES)
+        .min(marks.len())
+        .min(bytes.len() / POSITION_BYTES);
+    // By index: a mark and nine bytes are read and nine written at the same place.
+    for i in 0..n {
+        let at = POSITION_BYTES * i;
+        let evidence = evidence_in(&bytes[at..at + POSITION_BYTES], marks[i] != 0);
+        store_position(evidence, at, out);
     }
 }

@@ -10,7 +10,7 @@ use mathlib.Core.Bool.{Bool, true, false}
 use mathlib.Core.List.{List, []}
 use Prim.Native.Nat.{ℕ, ◌/◌, ◌≤◌}
 use native.Mathlib.Omega.{arith}
-use lib.ListN.{length, take, replicate, length-replicate}
+use lib.ListN.{length, take, length-replicate}
 use lib.Seq.{take-nil}
 use Rattle.std.proofs.Common.{Option, None, Some, option_map, Result}
 use Rattle.std.specs.Option.{option_and, option_map_or}
@@ -20,6 +20,7 @@ use Rattle.lists.proofs.Output.{put_none, put_fitting, front_of}
 use Rattle.refusals.specs.declared.Refusal.{Refusal}
 use Rattle.refusals.specs.Refusal.{refused}
 use Rattle.refusals.specs.Outcome.{answer}
+use Rattle.refusals.specs.Outcome.{zeros}
 use Rattle.methylation.specs.Arrays.{evidence_arrays, evidence_of_length}
 use Rattle.methylation.specs.declared.ConversionPattern.{ConversionPattern}
 use Rattle.methylation.specs.Methylation.{is_annotated}
@@ -89,10 +90,6 @@ none_read x = record {
   unconverted = nothing 9 (count_in 1) x.unconverted refl;
   converted = nothing 9 (count_in 5) x.converted refl;
 }
-
--- Arrays of 1,024 places each, as a call begins with them.
-abbrev pub zeros : List ℕ
-zeros = replicate 1024 0
 
 -- What was read of few enough groups of bytes is at the front.
 front : (width : ℕ) (f : List ℕ → ℕ) (bytes : List ℕ) {now : List ℕ} → ReadTo (by_group width f bytes) zeros now → length bytes / width ≤ 1024 → take (length bytes / width) now ≡ by_group width f bytes

@@ -1,5 +1,7 @@
--- The rows that are tested of strands given as bytes before their numbers are read, document 01: 13 and 7, by byte counts.
-use Rattle.std.specs.Prelude.{Option, Some, None, option_map, ◌/◌, ◌%◌, Bool, false, cond, not, ◌&&◌, ◌||◌, List, [], ◌∷◌, eqb, length}
+-- The rows that are tested of strands given as bytes before their numbers are read, document 01: 13 and 7, by byte counts; and the kind of
+-- the record that they make, by their depths.
+use Rattle.std.specs.Prelude.{ℕ, Option, Some, None, Result, Err, option_map, ◌/◌, ◌%◌, Bool, false, cond, not, ◌&&◌, ◌||◌, List, [], ◌∷◌, eqb, length, take}
+use Rattle.refusals.specs.declared.Refusal.{Refusal}
 use Rattle.refusals.specs.declared.Refusal.TheVariants.{Broken, TooLong}
 use Rattle.refusals.specs.Refusal.{Fault, ◌if◌}
 use Rattle.std.specs.Option.{option_and, option_map_or}
@@ -8,8 +10,10 @@ use Rattle.methylation.specs.Methylation.{is_annotated}
 use Rattle.vanilla_caller.specs.Strand.{strand_too_long}
 use Rattle.vanilla_caller.specs.declared.Lengths.{Lengths}
 use Rattle.byte_numbers.specs.Bytes.{odd_count}
+use Rattle.duplex_kind.specs.Kind.{Given, kind_given, record_kind}
+use Rattle.duplex_kind.specs.declared.DuplexConsensus.{DuplexConsensus}
 use Rattle.molecule_strand.specs.declared.ByteLengths.{ByteLengths}
-use Rattle.molecule_strand.specs.Strand.{StrandBytes}
+use Rattle.molecule_strand.specs.Strand.{StrandBytes, strand_of}
 
 -- Refusal 13's condition for a strand: a byte count that does not fit the widths. An absent strand's are not looked at, nor that of
 -- evidence without an annotation.
@@ -66,3 +70,15 @@ length_faults a b =
     (Broken if (option_map_or is_misfit a false || option_map_or is_misfit b false))
     ∷ (TooLong if (option_map_or is_long a false || option_map_or is_long b false))
     ∷ []
+
+-- What is given of a strand by its byte counts, and by depths that were read to the front of an array.
+abbrev pub given_by : StrandBytes → List ℕ → Given
+given_by s depths = record { present = s.present; lengths = numbers_in s; depths = take (length s.depths / 2) depths }
+
+-- The kind of the record that two strands make, or the refusal: 13 for a byte count before all others.
+abbrev pub kind_by : StrandBytes → StrandBytes → Result (Option DuplexConsensus) Refusal
+kind_by a b = cond (misfit_in a || misfit_in b) (Err Broken) (record_kind (strand_of a) (strand_of b) false 0 false)
+
+-- The same by depths that were read.
+abbrev pub kind_read : StrandBytes → StrandBytes → List ℕ → List ℕ → Result (Option DuplexConsensus) Refusal
+kind_read a b a_depths b_depths = cond (misfit_in a || misfit_in b) (Err Broken) (kind_given (given_by a a_depths) (given_by b b_depths) false 0 false)

@@ -1,5 +1,5 @@
 // A strand given as bytes: what of it is looked at, the rows that are tested of its byte counts before its numbers are read, 13 and 7,
-// and its numbers. Uses lists, refusals, methylation, vanilla_caller, byte_numbers, molecule_evidence and duplex_kind.
+// its numbers, and the kind of the record that two strands make. Uses lists, refusals, methylation, vanilla_caller, byte_numbers, molecule_evidence and duplex_kind.
 #![tactic(auto)]
 
 ghost use Rattle.std.specs.Prelude.{◌≡◌, ◌/◌, None, Some, length, true};
@@ -9,10 +9,11 @@ ghost use Rattle.refusals.specs.Outcome.{answer};
 ghost use Rattle.methylation.specs.Arrays.{evidence_in};
 ghost use Rattle.methylation.specs.Methylation.{is_annotated};
 ghost use Rattle.methylation.specs.Outputs.{SameEvidence};
-ghost use Rattle.duplex_kind.specs.Kind.{given_of};
-ghost use Rattle.molecule_strand.specs.Rows.{byte_lengths, is_misfit, positions_of, is_long, numbers_in, length_faults};
+ghost use Rattle.duplex_kind.specs.Kind.{given_of, given_in};
+ghost use Rattle.molecule_strand.specs.Rows.{byte_lengths, is_misfit, positions_of, is_long, numbers_in, length_faults, given_by, kind_read};
 ghost use Rattle.molecule_strand.specs.Strand.{encoded_pattern, encoded_annotation, wrong_encoded_pattern, encoded_annotation_in, pattern_held, bytes_held, lengths_held, strand_bytes, encoded_in, numbers, numbers_strand, NumbersRead, StrandRead};
 
+use duplex_kind::{DuplexConsensus, GivenStrand, record_kind};
 use lists::front;
 use methylation::{ConversionPattern, EvidenceLengths, EvidenceOutputs, EvidenceSlices};
 use molecule_evidence::{POSITION_BYTES, read_evidence};
@@ -258,6 +259,30 @@ pub fn early_refusal(a: Option<ByteLengths>, b: Option<ByteLengths>) -> Result<(
     refuse(misfit, Refusal::Broken)?;
     let long = a.is_some_and(ByteLengths::is_long) | b.is_some_and(ByteLengths::is_long);
     refuse(long, Refusal::TooLong)
+}
+
+// What is given of a strand, whose depths were read to the front of an array.
+fn given_by<'a>(s: Option<EncodedStrand>, depths: &'a [u16]) -> Option<GivenStrand<'a>>
+    ensures { given_in result ≡ given_by (encoded_in s.entry) depths.now }
+{
+    s.map(|s| GivenStrand {
+        lengths: s.lengths(),
+        depths: front(depths, s.depths.len() / 2),
+    })
+}
+
+// The kind of the record that two strands make, for which of their numbers the depths alone are looked at: those that were read to the
+// front of two arrays. Refuses by 13, 7, 8. Each strand and its array come apart, as its bytes and its numbers do.
+pub fn kind_of_depths(
+    a: Option<EncodedStrand>,
+    b: Option<EncodedStrand>,
+    a_depths: &[u16],
+    b_depths: &[u16],
+) -> Result<Option<DuplexConsensus>, Refusal>
+    ensures { result ≡ kind_read (encoded_in a.entry) (encoded_in b.entry) a_depths.now b_depths.now }
+{
+    early_refusal(byte_lengths(a), byte_lengths(b))?;
+    record_kind(given_by(a, a_depths), given_by(b, b_depths), None)
 }
 
 // Reads as many of a strand's depths and errors as there is room for. Its other slices are not looked at.
