@@ -1,1 +1,7 @@
-pub mod Consensus
+mod Rows
+mod Read
+mod Written
+mod Both
+mod Consensus
+mod Single
+mod Arms

@@ -1,1 +1,2 @@
 pub mod Consensus
+pub mod Parts

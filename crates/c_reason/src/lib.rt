@@ -7,32 +7,22 @@
 
 ghost use Rattle.std.specs.Prelude.{◌≡◌, ◌||◌, get_or};
 ghost use Rattle.molecule_evidence.specs.Evidence.{marks_of};
+ghost use Rattle.molecule_strand.specs.Rows.{kind_by};
 ghost use Rattle.molecule_strand.specs.Strand.{encoded_in, strand_of, wrong_encoded_pattern};
-ghost use Rattle.duplex_kind.specs.Kind.{given_in};
 ghost use Rattle.duplex_reason.specs.Record.{shown_at};
 ghost use Rattle.rust_reason.specs.Reply.{reason_for};
 ghost use Rattle.c_interface.specs.Entry.{told, strand_given, told_by};
 ghost use Rattle.c_reason.specs.Reason.{bytes_reason};
-ghost use Rattle.c_reason.specs.Parts.{given_by, kind_by, reason_given, reason_by};
+ghost use Rattle.c_reason.specs.Parts.{reason_given, reason_by};
 
 use c_interface::strand_told;
-use duplex_kind::{DuplexConsensus, GivenStrand, record_kind};
+use duplex_kind::DuplexConsensus;
 use duplex_reason::{NoCallReason, Shown, reason_in};
-use lists::{front, get_or};
+use lists::get_or;
 use molecule_evidence::POSITION_BYTES;
-use molecule_strand::{EncodedStrand, byte_lengths, early_refusal};
+use molecule_strand::{EncodedStrand, kind_of_depths};
 use refusals::Refusal;
 use rust_reason::Reason;
-
-// What is given of a strand, whose depths were read to the front of an array.
-fn given_by<'a>(s: Option<EncodedStrand>, depths: &'a [u16]) -> Option<GivenStrand<'a>>
-    ensures { given_in result ≡ given_by (encoded_in s.entry) depths.now }
-{
-    s.map(|s| GivenStrand {
-        lengths: s.lengths(),
-        depths: front(depths, s.depths.len() / 2),
-    })
-}
 
 // A strand's bytes of depths, none of an absent one.
 fn depths_of<'a>(s: Option<EncodedStrand<'a>>) -> &'a [u8]
@@ -49,13 +39,12 @@ fn kind_by(
 ) -> Result<Option<DuplexConsensus>, Refusal>
     ensures { result ≡ kind_by (encoded_in a.entry) (encoded_in b.entry) }
 {
-    early_refusal(byte_lengths(a), byte_lengths(b))?;
     // No heap: arrays of the most that is looked at.
     let mut a_depths = [0; 1024];
     let mut b_depths = [0; 1024];
     byte_numbers::read(depths_of(a), &mut a_depths);
     byte_numbers::read(depths_of(b), &mut b_depths);
-    record_kind(given_by(a, &a_depths), given_by(b, &b_depths), None)
+    kind_of_depths(a, b, &a_depths, &b_depths)
 }
 
 // The mark of a position in bytes of evidence, 0 past their end.

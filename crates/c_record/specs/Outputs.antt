@@ -1,11 +1,11 @@
 -- A duplex record as bytes: a base and a quality are one byte, errors two bytes a position, low byte first, evidence nine.
-use Rattle.std.specs.Prelude.{ℕ, ◌/◌, ◌≡◌, Bool, Option, Some, None, Result, Ok, Err, List, [], ◌∷◌, take}
+use Rattle.std.specs.Prelude.{ℕ, ◌/◌, ◌≡◌, Bool, Option, Some, None, List, [], ◌∷◌}
 use Rattle.std.specs.Option.{option_and}
 use Rattle.refusals.specs.declared.Refusal.{Refusal}
 use Rattle.refusals.specs.declared.Refusal.TheVariants.{OutputTooShort}
 use Rattle.refusals.specs.Refusal.{◌if◌, refused}
 use Rattle.refusals.specs.Outcome.{after}
-use Rattle.methylation.specs.Arrays.{evidence_in, evidence_fronts, evidence_places, evidence_of_length}
+use Rattle.methylation.specs.Arrays.{evidence_of_length}
 use Rattle.methylation.specs.declared.ConversionPattern.{ConversionPattern}
 use Rattle.byte_numbers.specs.Bytes.{words16, bytes16}
 use Rattle.molecule_evidence.specs.Evidence.{marks_of, unconverted_of, converted_of, evidence_bytes}
@@ -13,7 +13,6 @@ use Rattle.duplex_outputs.specs.Outputs.{RecordArrays, record_of, record_lengths
 use Rattle.duplex_outputs.specs.declared.RecordLengths.{RecordLengths}
 use Rattle.duplex_kind.specs.declared.DuplexConsensus.{DuplexConsensus}
 use Rattle.duplex_kind.specs.declared.DuplexConsensus.TheVariants.{Ab, Ba, Both}
-use Rattle.c_record.specs.declared.RecordSlices.{RecordSlices}
 use Rattle.c_record.specs.declared.Written.{Written}
 
 -- The outputs of a record, and what is written to them.
@@ -26,10 +25,6 @@ pub record RecordBytes : Type 0 where
 
 abbrev pub record_bytes : List ℕ → List ℕ → List ℕ → List ℕ → List ℕ → RecordBytes
 record_bytes bases quals errors evidence_a evidence_b = record { bases = bases; quals = quals; errors = errors; evidence_a = evidence_a; evidence_b = evidence_b }
-
--- The arrays of a record, as the code has them.
-abbrev pub record_in : RecordSlices → RecordArrays
-record_in r = record { bases = r.bases.now; quals = r.quals.now; errors = r.errors.now; a = evidence_in r.a; b = evidence_in r.b }
 
 -- The bytes of a record's arrays.
 abbrev pub as_bytes : RecordArrays → RecordBytes
@@ -68,34 +63,6 @@ short_for w out = record_too_short w.positions (record_lengths w.first w.second 
 
 abbrev pub outputs_refused : Written → RecordBytes → Option Refusal
 outputs_refused w out = refused ((OutputTooShort if short_for w (as_arrays out)) ∷ [])
-
--- What is written of some arrays: so many positions.
-abbrev pub fronts : Written → RecordArrays → RecordArrays
-fronts w r =
-    let n = w.positions in
-    record {
-      bases = take n r.bases;
-      quals = take n r.quals;
-      errors = take n r.errors;
-      a = evidence_fronts (evidence_places w.first n) r.a;
-      b = evidence_fronts (evidence_places w.second n) r.b;
-    }
-
--- What a call answers that was refused by this row, as its conversion to a refusal of another type gives it, or else made x.
-abbrev pub AnsweredAs : {A E : Type 0} → (Refusal → E → Type 0) → Option Refusal → A → Result A E → Type 0
-AnsweredAs gives None x r = r ≡ Ok x
-AnsweredAs {E = E} gives (Some row) x r = (refusal : E) × gives row refusal × (r ≡ Err refusal)
-
-module _ {E : Type 0} (gives : Refusal → E → Type 0) where
-  -- What a call answers and leaves that writes the record which was made, given what it writes of these arrays.
-  pub record Writes (w : Written) (made : Option DuplexConsensus) (arrays : RecordArrays) (before now : RecordBytes) (r : Result (Option DuplexConsensus) E) : Type 0 where
-    pub answered : AnsweredAs gives (outputs_refused w before) made r
-    pub outputs : LeavesBytes (outputs_refused w before) (as_bytes (fronts w arrays)) before now
-
-  -- The same of what a call answered, of strands with these annotations. A refusal of any type is handed on, and nothing is written.
-  abbrev pub WrittenAs : Option ConversionPattern → Option ConversionPattern → Result (Option DuplexConsensus) E → RecordArrays → RecordBytes → RecordBytes → Result (Option DuplexConsensus) E → Type 0
-  WrittenAs a b (Err refusal) arrays before now r = (r ≡ Err refusal) × (now ≡ before)
-  WrittenAs a b (Ok made) arrays before now r = Writes (written_of a b made) made arrays before now r
 
 -- For the functions below the call: how many positions outputs of so many bytes hold, of evidence where it is written.
 abbrev pub positions_in : Written → ℕ → ℕ → ℕ → ℕ → ℕ → RecordLengths

@@ -1,30 +1,17 @@
-// A duplex record as bytes: its arrays, written to lent outputs of bytes as far as the record goes. It owns the layout of those
-// outputs and row 12 for them. Uses lists, refusals, methylation, byte_numbers, molecule_evidence, duplex_outputs and duplex_kind.
+// A duplex record as bytes: the lent outputs of bytes that it is written to, and row 12 for them. It owns their layout. Uses refusals,
+// methylation, byte_numbers, molecule_evidence, duplex_outputs and duplex_kind.
 #![tactic(auto)]
 
-ghost use Rattle.std.specs.Prelude.{◌≡◌, ◌/◌, length, take};
-ghost use Rattle.lists.specs.Output.{put};
-ghost use Rattle.methylation.specs.Arrays.{evidence_places};
-ghost use Rattle.molecule_evidence.specs.Evidence.{evidence_bytes};
-ghost use Rattle.c_record.specs.Lent.{bytes_out, SameBytes};
-ghost use Rattle.c_record.specs.Outputs.{record_in, written_of, positions_in, WrittenAs};
+ghost use Rattle.std.specs.Prelude.{◌≡◌, length};
+ghost use Rattle.refusals.specs.Outcome.{answer};
+ghost use Rattle.c_record.specs.Lent.{bytes_out};
+ghost use Rattle.c_record.specs.Outputs.{written_of, positions_in, outputs_refused};
 
 use duplex_kind::DuplexConsensus;
 use duplex_outputs::{RecordLengths, record_too_short};
-use lists::{copy, front};
-use methylation::{ConversionPattern, EvidenceLengths, EvidenceSlices, evidence_places};
-use molecule_evidence::{POSITION_BYTES, write_evidence};
+use methylation::{ConversionPattern, EvidenceLengths};
+use molecule_evidence::POSITION_BYTES;
 use refusals::{Refusal, refuse};
-
-// The arrays of a record: its own, and the evidence of its first strand and of its second.
-#[derive(Clone, Copy)]
-pub struct RecordSlices<'a> {
-    pub bases: &'a [u8],
-    pub quals: &'a [u8],
-    pub errors: &'a [u16],
-    pub a: EvidenceSlices<'a>,
-    pub b: EvidenceSlices<'a>,
-}
 
 // The outputs for a record as bytes: its own, and those for the evidence of its first strand and of its second. A function that is
 // lent them leaves each slice where it is (specs/Lent.antt).
@@ -45,7 +32,8 @@ pub struct Written {
     pub second: Option<ConversionPattern>,
 }
 
-fn written_of(
+// What is written of a record that was made of strands with these annotations. A strand alone is the first.
+pub fn written_of(
     a: Option<ConversionPattern>,
     b: Option<ConversionPattern>,
     made: Option<DuplexConsensus>,
@@ -80,41 +68,13 @@ impl ByteOutputs<'_> {
             b: w.second.and(Some(b)),
         }
     }
-}
 
-// The first n positions of a strand's evidence, where there is an annotation, as many as there is room for.
-fn write_strand(
-    annotation: Option<ConversionPattern>,
-    n: usize,
-    evidence: EvidenceSlices,
-    out: &mut [u8],
-)
-    ensures { out.new ≡ put (evidence_bytes (take (length out.old / 9) (take (evidence_places annotation n) evidence.entry.marks.now)) (take (evidence_places annotation n) evidence.entry.unconverted.now) (take (evidence_places annotation n) evidence.entry.converted.now)) out.old }
-{
-    write_evidence(evidence.front(evidence_places(annotation, n)), out);
-}
-
-// Writes the record that a call answered, from the arrays that it left, and hands its answer on. Evidence is written of the annotated
-// strands that are in the record. What was refused, for whatever, is not written. Of the annotations only whether they are there counts.
-// Refuses by 12, and then writes nothing.
-pub fn write_record<E: From<Refusal>>(
-    made: Result<Option<DuplexConsensus>, E>,
-    a: Option<ConversionPattern>,
-    b: Option<ConversionPattern>,
-    arrays: RecordSlices,
-    out: &mut ByteOutputs<'_>,
-) -> Result<Option<DuplexConsensus>, E>
-    ensures same_references { SameBytes out.old out.new }
-    ensures written { WrittenAs E.from_gives a b made (record_in arrays.entry) (bytes_out out.old) (bytes_out out.new) result }
-{
-    let made = made?;
-    let w = written_of(a, b, made);
-    let short = record_too_short(w.positions, out.positions(w));
-    refuse(short, Refusal::OutputTooShort)?;
-    copy(front(arrays.bases, w.positions), out.bases);
-    copy(front(arrays.quals, w.positions), out.quals);
-    byte_numbers::write(front(arrays.errors, w.positions), out.errors);
-    write_strand(w.first, w.positions, arrays.a, out.a_evidence);
-    write_strand(w.second, w.positions, arrays.b, out.b_evidence);
-    Ok(made)
+    // The row that refuses them for what is written: 12, or none.
+    #[tactic(auto, using(crate::proofs::Outputs::refused_is))]
+    pub fn refusal(&self, w: Written) -> Result<(), Refusal>
+        ensures { result ≡ answer (outputs_refused w (bytes_out self.now)) tt }
+    {
+        let short = record_too_short(w.positions, self.positions(w));
+        refuse(short, Refusal::OutputTooShort)
+    }
 }

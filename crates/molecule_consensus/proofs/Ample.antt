@@ -8,11 +8,12 @@ use mathlib.Core.List.{List, [], ◌∷◌}
 use Prim.Native.Nat.{ℕ, ◌≤◌}
 use native.Mathlib.Omega.{arith}
 use borrow.Author.Tests.{le-ltb}
-use lib.ListN.{length, take, replicate, length-replicate}
+use lib.ListN.{length, take, length-replicate}
 use Rattle.std.proofs.Common.{Option, Some, None}
 use Rattle.refusals.specs.declared.Refusal.{Refusal}
 use Rattle.refusals.specs.declared.Refusal.TheVariants.{Broken, TooLong, Ragged, TooManyReads, PartOutside, OutputTooShort}
 use Rattle.refusals.specs.Refusal.{too_many}
+use Rattle.refusals.specs.Outcome.{zeros}
 use Rattle.refusals.proofs.Condition.{nor_where, both_hold}
 use Rattle.std.specs.Option.{option_map_or}
 use Rattle.methylation.specs.Arrays.{EvidenceArrays, evidence_arrays, evidence_lengths, annotated_lengths, evidence_too_short}
@@ -39,9 +40,6 @@ pub record Ample (out : RecordArrays) : Type 0 where
   pub errors : 1024 ≤ length out.errors
   pub a : AmpleEvidence out.a
   pub b : AmpleEvidence out.b
-
-abbrev zeros : List ℕ
-zeros = replicate 1024 0
 
 pub zeros_ample : Ample zero_buffers
 zeros_ample =

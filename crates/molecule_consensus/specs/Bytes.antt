@@ -24,10 +24,6 @@ evident s = s.present && is_annotated s.annotation
 abbrev pub seen : StrandBytes → StrandBytes
 seen s = strand_bytes s.present s.annotation (only_if s.present s.bases) (only_if s.present s.quals) (only_if s.present s.depths) (only_if s.present s.errors) (only_if (evident s) s.evidence)
 
--- A strand without its annotation.
-abbrev pub plain : StrandBytes → StrandBytes
-plain s = strand_bytes s.present None s.bases s.quals s.depths s.errors []
-
 -- Byte counts of depths, errors or evidence that do not fit the widths.
 abbrev pub misfit : StrandBytes → Bool
 misfit s = odd_count (length s.depths) || (odd_count (length s.errors) || not (eqb (length s.evidence % 9) 0))

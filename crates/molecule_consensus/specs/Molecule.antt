@@ -7,7 +7,7 @@ use Rattle.molecule_strand.specs.Strand.{StrandBytes, encoded_in}
 use Rattle.molecule_errors.specs.Run.{run_in}
 use Rattle.molecule_consensus.specs.declared.EncodedMolecule.{EncodedMolecule}
 use Rattle.molecule_consensus.specs.declared.RecordBuffers.{RecordBuffers}
-use Rattle.molecule_consensus.specs.Bytes.{seen, plain, BytesAs}
+use Rattle.molecule_consensus.specs.Bytes.{seen, BytesAs}
 
 pub record MoleculeBytes : Type 0 where
   pub a : StrandBytes
@@ -21,10 +21,6 @@ molecule_in m = record { a = encoded_in m.a; b = encoded_in m.b; listed = is_som
 -- What is looked at of its strands.
 abbrev pub seen_of : MoleculeBytes → MoleculeBytes
 seen_of m = record { a = seen m.a; b = seen m.b; listed = m.listed; run = m.run }
-
--- Its strands without their annotations.
-abbrev pub plain_of : MoleculeBytes → MoleculeBytes
-plain_of m = record { a = plain m.a; b = plain m.b; listed = m.listed; run = m.run }
 
 -- What a call answers and leaves in its outputs, given what is looked at.
 abbrev pub MoleculeAs : MoleculeBytes → RecordArrays → RecordArrays → Result (Option DuplexConsensus) Refusal → Type 0

@@ -5,23 +5,20 @@
 #![tactic(auto)]
 
 ghost use Rattle.std.specs.Prelude.{◌≡◌};
-ghost use Rattle.methylation.specs.Outputs.{evidence_out, no_evidence, SameEvidence};
+ghost use Rattle.methylation.specs.Outputs.{evidence_out, SameEvidence};
 ghost use Rattle.duplex_outputs.specs.Lent.{record_out, SameOutputs};
 ghost use Rattle.duplex_kind.specs.Kind.{given_of};
 ghost use Rattle.molecule_strand.specs.Strand.{encoded_in, StrandRead};
-ghost use Rattle.molecule_consensus.specs.Bytes.{plain};
 ghost use Rattle.molecule_consensus.specs.Numbers.{numbers_in, zero_numbers, strand_read};
-ghost use Rattle.molecule_consensus.specs.Molecule.{molecule_in, seen_of, plain_of, zero_buffers, buffers_in, MoleculeAs};
+ghost use Rattle.molecule_consensus.specs.Molecule.{molecule_in, seen_of, zero_buffers, buffers_in, MoleculeAs};
 
 use duplex_kind::DuplexConsensus;
 use duplex_outputs::RecordOutputs;
-use duplex_record::{duplex_record, plain_record};
-use methylation::{EvidenceOutputs, EvidenceSlices};
+use duplex_record::duplex_record;
+use methylation::EvidenceOutputs;
 use molecule_errors::{count_errors, read_list};
 use molecule_evidence::EvidenceBuffers;
-use molecule_strand::{
-    EncodedStrand, byte_lengths, early_refusal, read_numbers, read_strand, strand_of_numbers,
-};
+use molecule_strand::{EncodedStrand, byte_lengths, early_refusal, read_strand, strand_of_numbers};
 use refusals::Refusal;
 use vanilla_caller::VanillaConsensusRead;
 
@@ -152,45 +149,4 @@ impl RecordBuffers {
         };
         duplex_consensus_of_bytes(m, &mut own, &mut a_evidence, &mut b_evidence)
     }
-}
-
-// A strand without its annotation.
-fn plain<'a>(s: Option<EncodedStrand<'a>>) -> Option<EncodedStrand<'a>>
-    ensures { encoded_in result ≡ plain (encoded_in s.entry) }
-{
-    s.map(|s| EncodedStrand {
-        methylation: None,
-        ..s
-    })
-}
-
-// The same of strands without their annotations, which are not looked at, nor is their evidence: no array is made for it.
-pub fn plain_consensus_of_bytes(
-    m: EncodedMolecule,
-    out: &mut RecordOutputs<'_>,
-) -> Result<Option<DuplexConsensus>, Refusal>
-    ensures same_references { SameOutputs out.old out.new }
-    ensures made { MoleculeAs (seen_of (plain_of (molecule_in m.entry)))
-        (record_out out.old no_evidence no_evidence)
-        (record_out out.new no_evidence no_evidence)
-        result }
-{
-    let a = plain(m.a);
-    let b = plain(m.b);
-    let list = read_list(m.reads)?;
-    early_refusal(byte_lengths(a), byte_lengths(b))?;
-    let none = EvidenceSlices::none();
-    // No heap: arrays of the most that is looked at. No struct of a strand's two, no plainer: StrandBuffers has arrays for evidence too, and
-    // of molecule_counts::CountBuffers `zeros` alone would be called, its arrays lent one by one as these are.
-    let mut a_depths = [0; 1024];
-    let mut a_errors = [0; 1024];
-    read_numbers(a, &mut a_depths, &mut a_errors);
-    let a_read = strand_of_numbers(a, &a_depths, &a_errors, none);
-    let mut b_depths = [0; 1024];
-    let mut b_errors = [0; 1024];
-    read_numbers(b, &mut b_depths, &mut b_errors);
-    let b_read = strand_of_numbers(b, &b_depths, &b_errors, none);
-    let made = plain_record(a_read, b_read, list, out);
-    count_errors(made, m.reads, a_read, b_read, out.errors);
-    made
 }

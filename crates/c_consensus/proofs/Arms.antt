@@ -1,0 +1,277 @@
+-- What the call leaves, by the kind of record that it made.
+--     kind_is          the kind, or what refuses the call for what is given
+--     none_puts, ab_puts, ba_puts, both_puts     what is written of each kind
+--     made_none, made_ab, made_ba, made_both     what is promised of it
+--     by_seen          the same of strands as far as they are looked at
+-- Assumes nothing.
+use mathlib.Core.Path.{◌≡◌, refl, sym, ap, ap₂, subst, ◌∙◌}
+use mathlib.Core.Bool.{Bool, true, false, cond, ◌&&◌}
+use mathlib.Core.List.{List, [], ◌∷◌}
+use Prim.Native.Nat.{ℕ, ◌/◌, ◌≤◌, min}
+use native.Mathlib.Omega.{arith}
+use borrow.Author.Tests.{ltb-false}
+use lib.ListN.{length, take, replicate}
+use Rattle.std.proofs.Common.{Option, Some, None, Result, Ok, Err}
+use Rattle.lists.specs.Output.{put}
+use Rattle.lists.specs.Part.{only_if}
+use Rattle.refusals.specs.declared.Refusal.{Refusal}
+use Rattle.refusals.specs.declared.Refusal.TheVariants.{Broken}
+use Rattle.refusals.specs.Refusal.{refused, too_many}
+use Rattle.refusals.specs.Outcome.{answer}
+use Rattle.refusals.proofs.Claims.{none_lost}
+use Rattle.methylation.specs.declared.ConversionPattern.{ConversionPattern}
+use Rattle.byte_numbers.specs.Bytes.{bytes16, all_bytes, words16}
+use Rattle.byte_numbers.specs.Groups.{joined}
+use Rattle.vanilla_caller.specs.Strand.{Arrays, lengths, strand_too_long, annotation_in, arrays_in}
+use Rattle.vanilla_caller.specs.declared.VanillaConsensusRead.{VanillaConsensusRead}
+use Rattle.molecule_evidence.specs.Evidence.{evidence_bytes}
+use Rattle.molecule_strand.specs.Rows.{misfit_in, numbers_in, kind_by, kind_read}
+use Rattle.molecule_strand.specs.Strand.{StrandBytes, Numbers, StrandRead, encoded_in, evidence_seen, strand_of}
+use Rattle.molecule_strand.specs.declared.EncodedStrand.{EncodedStrand}
+use Rattle.molecule_strand.proofs.Kind.{same_given, kind_whole}
+use Rattle.molecule_strand.proofs.Strand.{held_seen}
+use Rattle.molecule_fields.specs.Widths.{is_run}
+use Rattle.molecule_reads.specs.Run.{reads_of}
+use Rattle.molecule_consensus.specs.Bytes.{seen, misfit}
+use Rattle.molecule_consensus.proofs.Bytes.{same_misfit}
+use Rattle.duplex_molecule.specs.Molecule.{ct_input}
+use Rattle.duplex_molecule.specs.declared.CtInput.{CtInput}
+use Rattle.duplex_arrays.specs.Positions.{PositionsAs}
+use Rattle.duplex_kind.specs.Kind.{Given, Strand, strand, positions, strand_faults}
+use Rattle.duplex_kind.specs.declared.DuplexConsensus.{DuplexConsensus}
+use Rattle.duplex_kind.specs.declared.DuplexConsensus.TheVariants.{Ab, Ba, Both}
+use Rattle.duplex_kind.proofs.Kind.{Passes, taken, is_ab, is_ba, is_both}
+use Rattle.duplex_consensus.specs.Consensus.{combined_of, counted_positions}
+use Rattle.source_reads.specs.Reads.{counted_errors}
+use Rattle.c_record.specs.Outputs.{RecordBytes, written, written_of, outputs_refused}
+use Rattle.c_record.proofs.Outputs.{Room}
+use Rattle.c_consensus.specs.Consensus.{ConsensusBytesAs}
+use Rattle.c_consensus.specs.Parts.{zero_numbers, strand_read, StrandIs, unless_many, with_list, list_errors, errors_left, KeptAs, FitsIn}
+use Rattle.c_consensus.proofs.Rows.{seen_same, kind, inputs, listed_is, given_pass}
+use Rattle.c_consensus.proofs.Read.{Lengths, as_long, marks_size, depths_read, whole, strand_whole}
+use Rattle.c_consensus.proofs.Written.{kept_written}
+use Rattle.c_consensus.proofs.Both.{no_longer, positions_written, errors_written}
+use Rattle.c_consensus.proofs.Consensus.{Puts, of_kind, told, room_is, made_is}
+use Rattle.c_consensus.proofs.Single.{Copied, single_written}
+
+-- Of a strand as the code has it all evidence is looked at.
+pub seen_evidence : (s : Option EncodedStrand) → evidence_seen (encoded_in s) ≡ (encoded_in s).evidence
+unfolding only_if
+seen_evidence None = refl
+seen_evidence (Some s) = held_seen s.methylation
+
+pub by_seen : (a b : Option EncodedStrand) {listed : Bool} {run : List ℕ} {before now : RecordBytes} {r : Result (Option DuplexConsensus) Refusal} → ConsensusBytesAs (encoded_in a) (encoded_in b) listed run before now r → ConsensusBytesAs (seen (encoded_in a)) (seen (encoded_in b)) listed run before now r
+by_seen a b {listed} {run} {before} {now} {r} x =
+    subst (λ (s : StrandBytes). ConsensusBytesAs s (seen (encoded_in b)) listed run before now r) (sym (seen_same a))
+    (subst (λ (s : StrandBytes). ConsensusBytesAs (encoded_in a) s listed run before now r) (sym (seen_same b)) x)
+
+misfit_is : (s : Option EncodedStrand) → misfit_in (encoded_in s) ≡ misfit (encoded_in s)
+misfit_is s = same_misfit s ∙ ap misfit (seen_same s)
+
+-- A list changes no kind.
+kind_kept : (listed : Bool) (run : List ℕ) (k : Result (Option DuplexConsensus) Refusal) {x : Option DuplexConsensus} → with_list listed run k ≡ Ok x → k ≡ Ok x
+kind_kept false run k e = e
+kind_kept true run k e = by_run (is_run run) (too_many (length (reads_of run) ∷ [])) k e
+  where
+    by_run : (w t : Bool) (k : Result (Option DuplexConsensus) Refusal) {x : Option DuplexConsensus} → cond w (unless_many t k) (Err Broken) ≡ Ok x → k ≡ Ok x
+    by_run false t k e = absurd cc
+    by_run true t (Err row) e = absurd cc
+    by_run true true (Ok y) e = absurd cc
+    by_run true false (Ok y) e = e
+
+and_false : (p : Bool) {q : Bool} → q ≡ false → (p && q) ≡ false
+and_false true e = e
+and_false false e = refl
+
+-- A strand that passes fits.
+fits : (places : ℕ) (s : StrandBytes) → FitsIn places s → Passes (strand_of s) → Lengths s → length s.bases ≤ places
+unfolding strand_of
+fits places s few p l =
+    let counts : numbers_in s ≡ lengths s.annotation (strand_of s).arrays = ap (λ (g : Given). g.lengths) (same_given s) in
+    let short : strand_too_long (numbers_in s) ≡ false = ap strand_too_long counts ∙ p.not_long in
+    omega (arith, few (and_false s.present short), l.depths)
+
+pub none_puts : (before : RecordBytes) → Puts (record { bases = []; quals = []; errors = bytes16 []; evidence_a = evidence_bytes [] [] []; evidence_b = evidence_bytes [] [] [] }) before before
+unfolding all_bytes evidence_bytes joined put
+none_puts before = record { bases = refl; quals = refl; errors = refl; evidence_a = refl; evidence_b = refl }
+
+-- The same of equal strands.
+same_positions :
+    {n : ℕ} {ct ct' : CtInput} {x x' y y' : Arrays} {bases quals bases_now quals_now : List ℕ}
+    → ct ≡ ct'
+    → x ≡ x'
+    → y ≡ y'
+    → PositionsAs n ct x y bases quals bases_now quals_now
+    → PositionsAs n ct' x' y' bases quals bases_now quals_now
+same_positions e f g p = rw (e, f, g) at p
+
+same_errors : (listed : Bool) (n : ℕ) {ct ct' : CtInput} {x x' y y' : Arrays} (errors : List ℕ) → ct ≡ ct' → x ≡ x' → y ≡ y' → errors_left ct listed n x y errors ≡ errors_left ct' listed n x' y' errors
+same_errors listed n {ct} {ct'} {x} {x'} {y} {y'} errors e f g =
+    ap (λ (z : CtInput). errors_left z listed n x y errors) e
+    ∙ ap (λ (z : Arrays). errors_left ct' listed n z y errors) f
+    ∙ ap (λ (z : Arrays). errors_left ct' listed n x' z errors) g
+
+same_combined :
+    {p p' q q' : Option ConversionPattern} {x x' y y' : Arrays} {m m' : ℕ}
+    → p ≡ p'
+    → q ≡ q'
+    → x ≡ x'
+    → y ≡ y'
+    → m ≡ m'
+    → combined_of (strand true p x) (strand true q y) m ≡ combined_of (strand true p' x') (strand true q' y') m'
+same_combined {p} {p'} {q} {q'} {x} {x'} {y} {y'} {m} {m'} e f g h i =
+    ap (λ z. combined_of (strand true z x) (strand true q y) m) e
+    ∙ ap (λ z. combined_of (strand true p' x) (strand true z y) m) f
+    ∙ ap (λ z. combined_of (strand true p' z) (strand true q' y) m) g
+    ∙ ap (λ z. combined_of (strand true p' x') (strand true q' z) m) h
+    ∙ ap (λ z. combined_of (strand true p' x') (strand true q' y') z) i
+
+module _
+    (places : ℕ) (a b : Option EncodedStrand) (listed : Bool) (run : List ℕ)
+    (few_a : FitsIn places (encoded_in a)) (few_b : FitsIn places (encoded_in b))
+    {xa xb : Numbers} (read_a : StrandRead (encoded_in a) (zero_numbers places) xa) (read_b : StrandRead (encoded_in b) (zero_numbers places) xb)
+    {ks r : Result (Option DuplexConsensus) Refusal} (by_depths : ks ≡ kind_read (encoded_in a) (encoded_in b) xa.depths xb.depths) (by_list : r ≡ with_list listed run ks)
+    (before : RecordBytes)
+  where
+    abbrev A : StrandBytes
+    A = encoded_in a
+
+    abbrev B : StrandBytes
+    B = encoded_in b
+
+    abbrev first : Strand
+    first = strand_of A
+
+    abbrev second : Strand
+    second = strand_of B
+
+    abbrev count : ℕ
+    count = length (reads_of run)
+
+    of_strands : ks ≡ kind_by A B
+    of_strands = by_depths ∙ kind_whole A B xa.depths xb.depths (λ short. depths_read places A read_a (few_a short)) (λ short. depths_read places B read_b (few_b short))
+
+    pub kind_is : r ≡ answer (inputs A B listed run) (kind A B listed run)
+    kind_is = by_list ∙ ap (with_list listed run) of_strands ∙ listed_is A B listed run (misfit_is a) (misfit_is b)
+
+    module _ {k : Option DuplexConsensus} (was : r ≡ Ok k) where
+      is : (inputs A B listed run ≡ None) × (kind A B listed run ≡ k)
+      is = told A B listed run before (sym kind_is ∙ was)
+
+      pass : refused (strand_faults first second listed count false) ≡ None
+      pass = given_pass A B listed run is.0
+
+    pub ab_puts : {n : ℕ} {now : RecordBytes} → r ≡ Ok (Some (Ab n)) → Room (written n A.annotation None) before → Copied A n xa.errors xa.marks before now → Puts (of_kind A B listed run before (Some (Ab n))) before now
+    unfolding strand_of
+    ab_puts {n} {now} was room c =
+        let e : kind A B listed run ≡ Some (Ab n) = (is was).1 in
+        let (_, k, p) = is_ab first second listed count false (sym (taken first second listed count false (pass was)) ∙ ap Ok e) in
+        let size : positions first ≡ n = cc in
+        let same : length A.bases ≡ n = at size in
+        let l = as_long A p in
+        single_written places A read_a (seen_evidence a) l (fits places A few_a p l)
+        (subst (λ (m : ℕ). Room (written m A.annotation None) before) (sym same) room)
+        (subst (λ (m : ℕ). Copied A m xa.errors xa.marks before now) (sym same) c)
+      where
+        at : {m : ℕ} → positions first ≡ m → length A.bases ≡ m
+        at e = e
+
+    pub ba_puts : {n : ℕ} {now : RecordBytes} → r ≡ Ok (Some (Ba n)) → Room (written n B.annotation None) before → Copied B n xb.errors xb.marks before now → Puts (of_kind A B listed run before (Some (Ba n))) before now
+    unfolding strand_of
+    ba_puts {n} {now} was room c =
+        let e : kind A B listed run ≡ Some (Ba n) = (is was).1 in
+        let (_, k, p) = is_ba first second listed count false (sym (taken first second listed count false (pass was)) ∙ ap Ok e) in
+        let size : positions second ≡ n = cc in
+        let same : length B.bases ≡ n = at size in
+        let l = as_long B p in
+        single_written places B read_b (seen_evidence b) l (fits places B few_b p l)
+        (subst (λ (m : ℕ). Room (written m B.annotation None) before) (sym same) room)
+        (subst (λ (m : ℕ). Copied B m xb.errors xb.marks before now) (sym same) c)
+      where
+        at : {m : ℕ} → positions second ≡ m → length B.bases ≡ m
+        at e = e
+
+    pub both_puts :
+        {n : ℕ} {now : RecordBytes} {va vb : VanillaConsensusRead} {errors : List ℕ}
+        → r ≡ Ok (Some (Both n))
+        → Room (written n A.annotation B.annotation) before
+        → StrandIs (strand_read A xa) va
+        → StrandIs (strand_read B xb) vb
+        → errors ≡ list_errors listed run ks va vb (replicate places 0)
+        → PositionsAs n (ct_input (annotation_in va) (annotation_in vb)) (arrays_in va) (arrays_in vb) before.bases before.quals now.bases now.quals
+        → now.errors ≡ put (bytes16 (take (length before.errors / 2) (take n (errors_left (ct_input (annotation_in va) (annotation_in vb)) listed n (arrays_in va) (arrays_in vb) errors)))) before.errors
+        → KeptAs n (ct_input A.annotation B.annotation) A A.bases B.bases xa.marks before.evidence_a now.evidence_a
+        → KeptAs n (ct_input A.annotation B.annotation) B A.bases B.bases xb.marks before.evidence_b now.evidence_b
+        → Puts (of_kind A B listed run before (Some (Both n))) before now
+    unfolding strand_of
+    both_puts {n} {now} {va} {vb} {errors} was room sva svb listing pos errs ka kb =
+        let e : kind A B listed run ≡ Some (Both n) = (is was).1 in
+        let (_, k, pa, pb) = is_both first second listed count false (sym (taken first second listed count false (pass was)) ∙ ap Ok e) in
+        let shorter : n ≡ min (positions first) (positions second) = cc in
+        let la = as_long A pa in
+        let lb = as_long B pb in
+        let in_a : n ≤ length A.bases = omega arith in
+        let in_b : n ≤ length B.bases = omega arith in
+        let fit_a = fits places A few_a pa la in
+        let fit_b = fits places B few_b pb lb in
+        let sa = strand_whole places A read_a (seen_evidence a) (whole places A read_a (seen_evidence a) la fit_a) in
+        let sb = strand_whole places B read_b (seen_evidence b) (whole places B read_b (seen_evidence b) lb fit_b) in
+        let arrays_a = ap (λ (s : Strand). s.arrays) sa in
+        let arrays_b = ap (λ (s : Strand). s.arrays) sb in
+        let ct_is = ap₂ ct_input sva.annotation svb.annotation in
+        let clear = none_lost (strand_faults first second listed count false) (pass was) in
+        let whole_kind : ks ≡ Ok (Some (Both n)) = kind_kept listed run ks (sym by_list ∙ was) in
+        let counted : counted_errors (reads_of run) run _ (replicate places 0) ≡ counted_errors (reads_of run) run (combined_of first second n) (replicate places 0) =
+        ap (λ s. counted_errors (reads_of run) run s (replicate places 0)) (same_combined sva.annotation svb.annotation (sva.arrays ∙ arrays_a) (svb.arrays ∙ arrays_b) (ap (counted_positions true) whole_kind))
+        in
+        let written_own = positions_written A B n la lb in_a in_b room.bases room.quals (same_positions ct_is (sva.arrays ∙ arrays_a) (svb.arrays ∙ arrays_b) pos) in
+        record {
+          bases = written_own.0;
+          quals = written_own.1;
+          errors =
+              errs
+              ∙ ap (λ (l : List ℕ). put (bytes16 (take (length before.errors / 2) (take n l))) before.errors) (same_errors listed n errors ct_is (sva.arrays ∙ arrays_a) (svb.arrays ∙ arrays_b))
+              ∙ errors_written A B n la lb in_a in_b listed run places errors before.errors (omega arith) (omega (arith, no_longer A pa)) (λ l. ltb-false 1024 count (rw l at clear.1.1.0))
+              (listing ∙ ap (λ (z : List ℕ). cond listed z (replicate places 0)) counted)
+              room.errors;
+          evidence_a =
+              ka
+              ∙ kept_written n (ct_input A.annotation B.annotation) first.arrays second.arrays A.annotation A.bases A.quals (words16 A.depths) (words16 A.errors) A.evidence xa.marks before.evidence_a in_a in_b
+              (omega (arith, marks_size places A read_a))
+              (λ l. (omega (arith, la.evidence l), rw l at room.evidence_a));
+          evidence_b =
+              kb
+              ∙ kept_written n (ct_input A.annotation B.annotation) first.arrays second.arrays B.annotation B.bases B.quals (words16 B.depths) (words16 B.errors) B.evidence xb.marks before.evidence_b in_a in_b
+              (omega (arith, marks_size places B read_b))
+              (λ l. (omega (arith, lb.evidence l), rw l at room.evidence_b));
+        }
+
+    -- The same of a call that was not refused by row 12 either.
+    module _ {k : Option DuplexConsensus} (was : r ≡ Ok k) {x : Unit {0}} (not_short : answer (outputs_refused (written_of A.annotation B.annotation k) before) tt ≡ Ok x) where
+      made : {now : RecordBytes} {y : Option DuplexConsensus} → k ≡ y → Puts (of_kind A B listed run before y) before now → ConsensusBytesAs (seen A) (seen B) listed run before now (Ok k)
+      made {now} e p = by_seen a b (made_is A B listed run before (sym kind_is ∙ was) not_short (subst (λ (z : Option DuplexConsensus). Puts (of_kind A B listed run before z) before now) (sym e) p))
+
+      room_of : {y : Option DuplexConsensus} → k ≡ y → Room (written_of A.annotation B.annotation y) before
+      room_of {y} e = room_is (written_of A.annotation B.annotation y) before (subst (λ (z : Option DuplexConsensus). answer (outputs_refused (written_of A.annotation B.annotation z) before) tt ≡ Ok x) e not_short)
+
+      pub made_none : k ≡ None → ConsensusBytesAs (seen A) (seen B) listed run before before (Ok k)
+      made_none e = made e (none_puts before)
+
+      pub made_ab : {n : ℕ} {now : RecordBytes} → k ≡ Some (Ab n) → Copied A n xa.errors xa.marks before now → ConsensusBytesAs (seen A) (seen B) listed run before now (Ok k)
+      made_ab e c = made e (ab_puts (was ∙ ap Ok e) (room_of e) c)
+
+      pub made_ba : {n : ℕ} {now : RecordBytes} → k ≡ Some (Ba n) → Copied B n xb.errors xb.marks before now → ConsensusBytesAs (seen A) (seen B) listed run before now (Ok k)
+      made_ba e c = made e (ba_puts (was ∙ ap Ok e) (room_of e) c)
+
+      pub made_both :
+          {n : ℕ} {now : RecordBytes} {va vb : VanillaConsensusRead} {errors : List ℕ}
+          → k ≡ Some (Both n)
+          → StrandIs (strand_read A xa) va
+          → StrandIs (strand_read B xb) vb
+          → errors ≡ list_errors listed run ks va vb (replicate places 0)
+          → PositionsAs n (ct_input (annotation_in va) (annotation_in vb)) (arrays_in va) (arrays_in vb) before.bases before.quals now.bases now.quals
+          → now.errors ≡ put (bytes16 (take (length before.errors / 2) (take n (errors_left (ct_input (annotation_in va) (annotation_in vb)) listed n (arrays_in va) (arrays_in vb) errors)))) before.errors
+          → KeptAs n (ct_input A.annotation B.annotation) A A.bases B.bases xa.marks before.evidence_a now.evidence_a
+          → KeptAs n (ct_input A.annotation B.annotation) B A.bases B.bases xb.marks before.evidence_b now.evidence_b
+          → ConsensusBytesAs (seen A) (seen B) listed run before now (Ok k)
+      made_both e sva svb listing pos errs ka kb = made e (both_puts (was ∙ ap Ok e) (room_of e) sva svb listing pos errs ka kb)
