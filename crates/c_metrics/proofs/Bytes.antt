@@ -3,7 +3,7 @@
 --     told_given, odd_given      what the code has of the arguments
 --     seen_as                    the arguments with a number for whether there is a second strand
 --     narrow                     where the library's call is not refused, what is decoded fits its arrays
---     not_met, is_met, no_refusal, the_refusal, always     what the answers of the tests say
+--     always                     metrics of arrays that no row refuses are not refused
 --     refused_as, written_as     what a call answers and leaves
 --     entry_written, entry_told  the same with the answer as a number
 -- Assumes nothing.
@@ -24,8 +24,9 @@ use Rattle.byte_numbers.proofs.Bytes.{length_numbers}
 use Rattle.refusals.specs.declared.Refusal.{Refusal}
 use Rattle.refusals.specs.declared.Refusal.TheVariants.{Broken, TooLong, Ragged, OutputTooShort}
 use Rattle.refusals.specs.Refusal.{refused, number_of, number_or_0}
-use Rattle.refusals.specs.Outcome.{answer, refused_if}
+use Rattle.refusals.specs.Outcome.{answer, or_later}
 use Rattle.refusals.proofs.InOrder.{numbered_from_1}
+use Rattle.refusals.proofs.Outcome.{refused_by, passed_by}
 use Rattle.duplex_metrics.specs.Metrics.{Input, input, input_of, lengths, lengths_in, second_lengths, metrics_refused, metrics_faults, metrics_of, record_of}
 use Rattle.duplex_metrics.specs.declared.MetricsLengths.{MetricsLengths}
 use Rattle.duplex_metrics.proofs.Few.{few}
@@ -34,19 +35,15 @@ use Rattle.metrics_bits.specs.declared.MetricsBits.{MetricsBits}
 use Rattle.c_metrics.specs.Bytes.{Narrow, MetricsAs, MetricsEntry, seen, halved_lengths, decoded, odd_bytes, odd_counts, entry_refused, record_words}
 use Rattle.duplex_metrics.specs.declared.Counts.{Counts}
 
-abbrev or_else : Option Refusal → Option Refusal → Option Refusal
-or_else None later = later
-or_else (Some row) later = Some row
-
 abbrev short_row : Bool → Option Refusal
 short_row short = cond short (Some OutputTooShort) None
 
-rows : (long uneven short : Bool) → cond long (Some TooLong) (cond uneven (Some Ragged) (short_row short)) ≡ or_else (cond long (Some TooLong) (cond uneven (Some Ragged) None)) (short_row short)
+rows : (long uneven short : Bool) → cond long (Some TooLong) (cond uneven (Some Ragged) (short_row short)) ≡ or_later (cond long (Some TooLong) (cond uneven (Some Ragged) None)) (short_row short)
 rows true uneven short = refl
 rows false true short = refl
 rows false false short = refl
 
-entry_is : (x : Input) (before : List ℕ) → entry_refused x before ≡ cond (odd_counts x) (Some Broken) (or_else (metrics_refused (decoded x)) (short_row (ltb (length before) 40)))
+entry_is : (x : Input) (before : List ℕ) → entry_refused x before ≡ cond (odd_counts x) (Some Broken) (or_later (metrics_refused (decoded x)) (short_row (ltb (length before) 40)))
 entry_is x before = ap (λ (o : Option Refusal). cond (odd_counts x) (Some Broken) o) (rows _ _ (ltb (length before) 40))
 
 -- By the outcome of each test.
@@ -55,12 +52,12 @@ pub entry_at :
     → odd_counts x ≡ o
     → metrics_refused (decoded x) ≡ m
     → ltb (length before) 40 ≡ s
-    → entry_refused x before ≡ cond o (Some Broken) (or_else m (short_row s))
+    → entry_refused x before ≡ cond o (Some Broken) (or_later m (short_row s))
 entry_at x before o m s e f g =
     entry_is x before
-    ∙ ap (λ (b : Bool). cond b (Some Broken) (or_else (metrics_refused (decoded x)) (short_row (ltb (length before) 40)))) e
-    ∙ ap (λ (r : Option Refusal). cond o (Some Broken) (or_else r (short_row (ltb (length before) 40)))) f
-    ∙ ap (λ (b : Bool). cond o (Some Broken) (or_else m (short_row b))) g
+    ∙ ap (λ (b : Bool). cond b (Some Broken) (or_later (metrics_refused (decoded x)) (short_row (ltb (length before) 40)))) e
+    ∙ ap (λ (r : Option Refusal). cond o (Some Broken) (or_later r (short_row (ltb (length before) 40)))) f
+    ∙ ap (λ (b : Bool). cond o (Some Broken) (or_later m (short_row b))) g
 
 -- The code tests the second strand, which may be absent, last.
 strand_last : (p q r s t : Bool) → ((p || q) || t) || (r || s) ≡ p || (q || (r || (s || t)))
@@ -138,22 +135,6 @@ pub seen_as :
 seen_as a b second bases errors before {given} {now} {r} e m =
     subst (λ (x : Input). MetricsAs x before now r) (ap (λ (o : Option (Counts ℕ)). input_of a o bases errors) e ∙ second_seen a b second bases errors) m
 
-pub not_met : (met : Bool) (row : Refusal) {u : Unit {0}} → refused_if met row ≡ Ok u → met ≡ false
-not_met true row e = absurd cc
-not_met false row e = refl
-
-pub is_met : (met : Bool) {row e : Refusal} → refused_if met row ≡ Err e → (met ≡ true) × (row ≡ e)
-is_met true e = (refl, cc)
-is_met false e = absurd cc
-
-pub no_refusal : (row : Option Refusal) {u : Unit {0}} → answer {A = Unit {0}} row tt ≡ Ok u → row ≡ None
-no_refusal None e = refl
-no_refusal (Some row) e = absurd cc
-
-pub the_refusal : (row : Option Refusal) {e : Refusal} → answer {A = Unit {0}} row tt ≡ Err e → row ≡ Some e
-the_refusal None e = absurd cc
-the_refusal (Some row) e = cc
-
 pub always : (x : Input) → metrics_refused x ≡ None → {e : Refusal} → metrics_words (metrics_of x) ≡ Err e → ⊥
 always x z {e} h =
     let made = ap (λ (row : Option Refusal). metrics_words (answer row (record_of x))) z in
@@ -168,17 +149,17 @@ module _ (x : Input) (before : List ℕ) where
 
   -- With the answer as a number.
   pub entry_written : {now : List ℕ} {u : Unit {0}} → MetricsAs x before now (Ok u) → MetricsEntry x before now 0
-  entry_written m = record { answered = sym (ap number_or_0 (no_refusal (entry_refused x before) (sym m.answered))); left = m.left }
+  entry_written m = record { answered = sym (ap number_or_0 (passed_by (entry_refused x before) tt (sym m.answered)).0); left = m.left }
 
   pub entry_told : {now : List ℕ} {e : Refusal} {n : ℕ} → MetricsAs x before now (Err e) → n ≡ number_of e → MetricsEntry x before now n
-  entry_told m h = record { answered = h ∙ sym (ap number_or_0 (the_refusal (entry_refused x before) (sym m.answered))); left = m.left }
+  entry_told m h = record { answered = h ∙ sym (ap number_or_0 (refused_by (entry_refused x before) tt (sym m.answered))); left = m.left }
 
   pub clear : number_or_0 (entry_refused x before) ≡ 0 → (metrics_refused (decoded x) ≡ None) × (40 ≤ length before)
   clear z =
       let (passed, room) = go (odd_counts x) (metrics_refused (decoded x)) (ltb (length before) 40) (sym (ap number_or_0 (entry_is x before)) ∙ z) in
       (passed, ltb-false (length before) 40 room)
     where
-      go : (o : Bool) (m : Option Refusal) (s : Bool) → number_or_0 (cond o (Some Broken) (or_else m (short_row s))) ≡ 0 → (m ≡ None) × (s ≡ false)
+      go : (o : Bool) (m : Option Refusal) (s : Bool) → number_or_0 (cond o (Some Broken) (or_later m (short_row s))) ≡ 0 → (m ≡ None) × (s ≡ false)
       go true m s z = absurd (omega (arith, z))
       go false (Some row) s z = absurd (eqb-false (number_of row) 0 (numbered_from_1 row) z)
       go false None true z = absurd (omega (arith, z))

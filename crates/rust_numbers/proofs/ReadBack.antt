@@ -1,15 +1,20 @@
 -- The claims of `specs/ReadBack.antt`. Assumes nothing.
 use mathlib.Core.Path.{◌≡◌, refl}
-use mathlib.Core.Bool.{false}
+use mathlib.Core.Bool.{Bool, true, false}
 use Prim.Native.Nat.{ℕ}
+use lib.Dec.{eqb}
 use Rattle.methylation.specs.declared.ConversionPattern.{ConversionPattern}
 use Rattle.methylation.specs.declared.ConversionPattern.TheVariants.{CToT, GToA}
 use Rattle.duplex_molecule.specs.Molecule.{call_as}
 use Rattle.duplex_molecule.specs.declared.MoleculeCall.{MoleculeCall}
 use Rattle.std.proofs.Common.{None, Some, Option}
 use Rattle.methylation.specs.Choices.{pattern_number, pattern_of, wrong_pattern}
-use Rattle.rust_numbers.specs.Replies.{call_reply}
+use Rattle.rust_numbers.specs.Replies.{bit, call_reply}
 use Rattle.rust_numbers.specs.ReadBack.{call_back, ReadBack}
+
+bit_back : (met : Bool) → eqb (bit met) 1 ≡ met
+bit_back true = refl
+bit_back false = refl
 
 pattern_back : (x : ConversionPattern) → (wrong_pattern (pattern_number x) ≡ false) × (pattern_of (pattern_number x) ≡ x)
 pattern_back CToT = (refl, refl)
@@ -25,6 +30,9 @@ call_back_lem (Some call) = go call.pattern call.call call.confirmed
 
 pub read_back : ReadBack
 read_back = record {
+  bits = bit_back;
+  enabled = λ met. (refl, bit_back met);
+  rates = record { refusals = λ row. refl; passes = λ rate. refl; answers = λ rate. refl };
   name = record { refusals = λ row. refl; passes = λ n. refl; answers = λ n. refl };
   pattern = pattern_back;
   bases = λ x. refl;
