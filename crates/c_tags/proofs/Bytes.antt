@@ -1,5 +1,4 @@
 -- Evidence and counts between bytes and arrays of 1,024 places.
---     zeros                an array before a call
 --     evidence_read        evidence of at most so many positions is at the front of its arrays, all of it
 --     counted, summed      counts that `methylation_evidence` leaves in an array, written as bytes where there is room
 -- Assumes nothing.
@@ -8,11 +7,11 @@ use mathlib.Core.List.{List}
 use Prim.Native.Nat.{ℕ, ◌/◌, ◌≤◌}
 use native.Mathlib.Omega.{arith}
 use borrow.Author.Tests.{le-ltb}
-use lib.ListN.{length, take, replicate}
+use lib.ListN.{length, take}
 use Rattle.std.proofs.Common.{None}
 use Rattle.lists.specs.Output.{put}
 use Rattle.lists.proofs.Output.{front_of}
-use Rattle.refusals.specs.Outcome.{after}
+use Rattle.refusals.specs.Outcome.{after, zeros}
 use Rattle.methylation.specs.Arrays.{EvidenceArrays, evidence_arrays}
 use Rattle.byte_numbers.specs.Bytes.{bytes16}
 use Rattle.byte_numbers.specs.Groups.{by_group}
@@ -22,10 +21,6 @@ use Rattle.molecule_evidence.specs.Evidence.{mark_in, count_in, marks_of, unconv
 use Rattle.methylation_evidence.specs.Counts.{tag_counts, counts_refused, summed_counts, summed_refused}
 use Rattle.methylation_evidence.proofs.Counts.{counts_length, summed_length}
 use Rattle.duplex_tags.specs.Parts.{Countable}
-
--- An array before a call.
-abbrev pub zeros : List ℕ
-zeros = replicate 1024 0
 
 read : (f : List ℕ → ℕ) (bytes : List ℕ) {L : List ℕ} → length bytes / 9 ≤ 1024 → L ≡ put (take (length zeros) (by_group 9 f bytes)) zeros → take (length bytes / 9) L ≡ by_group 9 f bytes
 read f bytes few e = read_front 9 f bytes zeros few e

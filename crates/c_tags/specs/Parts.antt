@@ -5,7 +5,7 @@ use Rattle.refusals.specs.declared.Refusal.TheVariants.{Broken}
 use Rattle.methylation.specs.Choices.{mode_of}
 use Rattle.molecule_strand.specs.Strand.{pattern_held, bytes_held}
 use Rattle.molecule_strand.specs.declared.EncodedAnnotation.{EncodedAnnotation}
-use Rattle.duplex_texts.specs.Texts.{Strand}
+use Rattle.duplex_texts.specs.Texts.{StrandAnnotation}
 use Rattle.duplex_texts.specs.declared.TextLengths.{TextLengths}
 use Rattle.duplex_tags.specs.declared.KindLengths.{KindLengths}
 use Rattle.rust_methylation.specs.Entries.{DuplexArrays}
@@ -13,7 +13,7 @@ use Rattle.c_tags.specs.Tags.{AnnotationBytes, is_broken, wrong_given, strand_of
 use Rattle.c_tags.specs.declared.Given.{Given}
 
 -- The strand that an annotation with its bytes stands for.
-abbrev pub strand_seen : Option EncodedAnnotation → Strand
+abbrev pub strand_seen : Option EncodedAnnotation → StrandAnnotation
 strand_seen s = strand_of (pattern_held s) (bytes_held s)
 
 -- What is read of a strand: 13, or the strand that is given.

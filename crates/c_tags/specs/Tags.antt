@@ -13,7 +13,7 @@ use Rattle.replies.specs.Replies.{RepliedAs}
 use Rattle.byte_numbers.specs.Bytes.{words16, bytes16}
 use Rattle.molecule_evidence.specs.Evidence.{marks_of, unconverted_of, converted_of}
 use Rattle.molecule_strand.specs.Strand.{encoded_annotation, wrong_encoded_pattern}
-use Rattle.duplex_texts.specs.Texts.{Strand, strand, duplex_texts}
+use Rattle.duplex_texts.specs.Texts.{StrandAnnotation, strand, duplex_texts}
 use Rattle.duplex_texts.specs.Outputs.{text_lengths, LeavesTexts}
 use Rattle.duplex_texts.specs.declared.TextLengths.{TextLengths}
 use Rattle.duplex_tags.specs.Tags.{KindArrays, kind_arrays, CountArrays, duplex_counts}
@@ -42,11 +42,11 @@ abbrev pub wrong_given : AnnotationBytes → AnnotationBytes → ℕ → Bool
 wrong_given a b mode = is_broken a || (is_broken b || wrong_mode mode)
 
 -- The strand that an annotation and bytes of evidence stand for.
-abbrev pub strand_of : Option ConversionPattern → List ℕ → Strand
+abbrev pub strand_of : Option ConversionPattern → List ℕ → StrandAnnotation
 strand_of annotation bytes = strand annotation (marks_of bytes) (unconverted_of bytes) (converted_of bytes)
 
 -- As far as it is looked at.
-abbrev pub strand_given : AnnotationBytes → Strand
+abbrev pub strand_given : AnnotationBytes → StrandAnnotation
 strand_given s = strand_of (encoded_annotation (yes s.annotated) s.pattern) (only_if (yes s.annotated) s.evidence)
 
 -- Each array of counts by itself: as bytes, and as the numbers that some bytes are. Outputs of so many bytes hold so many numbers.
@@ -57,11 +57,11 @@ abbrev pub each : (List ℕ → List ℕ) → CountArrays → CountArrays
 each f c = record { unconverted = each_kind f c.unconverted; converted = each_kind f c.converted }
 
 -- The rows that refuse the library's call.
-abbrev pub bytes_refused : MethylationMode → List ℕ → Strand → Strand → DuplexArrays → Option Refusal
+abbrev pub bytes_refused : MethylationMode → List ℕ → StrandAnnotation → StrandAnnotation → DuplexArrays → Option Refusal
 bytes_refused mode bases a b before = duplex_refused mode bases a b before.texts (each words16 before.counts)
 
 -- What the library's call leaves there, with its counts as bytes.
-pub record TagsBytesAs (mode : MethylationMode) (bases : List ℕ) (a b : Strand) (before now : DuplexArrays) (told : Result TextLengths Refusal) : Type 0 where
+pub record TagsBytesAs (mode : MethylationMode) (bases : List ℕ) (a b : StrandAnnotation) (before now : DuplexArrays) (told : Result TextLengths Refusal) : Type 0 where
   pub answered : told ≡ answer (bytes_refused mode bases a b before) (text_lengths (duplex_texts mode bases a b))
   pub the_texts : LeavesTexts (bytes_refused mode bases a b before) (duplex_texts mode bases a b) before.texts now.texts
   pub the_counts : LeavesCounts (bytes_refused mode bases a b before) (each bytes16 (duplex_counts (length bases) a b)) before.counts now.counts

@@ -9,7 +9,7 @@ use lib.ListN.{length}
 use Rattle.refusals.specs.declared.Refusal.{Refusal}
 use Rattle.refusals.specs.Refusal.{refused}
 use Rattle.methylation.specs.declared.MethylationMode.{MethylationMode}
-use Rattle.duplex_texts.specs.Texts.{Strand, TextArrays}
+use Rattle.duplex_texts.specs.Texts.{StrandAnnotation, TextArrays}
 use Rattle.duplex_texts.specs.Outputs.{text_lengths, strand_lengths, RoomTexts, given_of, most_texts}
 use Rattle.duplex_texts.proofs.Refused.{as_long}
 use Rattle.duplex_texts.proofs.Most.{texts_fit}
@@ -21,7 +21,7 @@ use Rattle.duplex_tags.proofs.Refused.{own_is, by_given}
 use Rattle.std.proofs.Common.{Option, Some, None}
 use Rattle.methylation.specs.Arrays.{evidence_places}
 
-kind_fits : (n : ℕ) (a b : Strand) (out : KindArrays) → RoomKind (most_counts n) (kind_lengths out) → kind_too_short (needed_counts n (strand_lengths a) (strand_lengths b)) (kind_lengths out) ≡ false
+kind_fits : (n : ℕ) (a b : StrandAnnotation) (out : KindArrays) → RoomKind (most_counts n) (kind_lengths out) → kind_too_short (needed_counts n (strand_lengths a) (strand_lengths b)) (kind_lengths out) ≡ false
 kind_fits n a b out ample =
     let few_a = few_places a.annotation n in
     let few_b = few_places b.annotation n in
@@ -29,7 +29,7 @@ kind_fits n a b out ample =
 
 -- Only the sequence and the evidence decide.
 pub ample_outputs :
-    (mode : MethylationMode) (bases : List ℕ) (a b : Strand) (texts : TextArrays) (counts : CountArrays)
+    (mode : MethylationMode) (bases : List ℕ) (a b : StrandAnnotation) (texts : TextArrays) (counts : CountArrays)
     → RoomTexts (most_texts (length bases)) (text_lengths texts)
     → RoomKind (most_counts (length bases)) (kind_lengths counts.unconverted)
     → RoomKind (most_counts (length bases)) (kind_lengths counts.converted)

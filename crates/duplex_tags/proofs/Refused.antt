@@ -8,7 +8,7 @@
 --     enough_room                  the room that it leaves
 -- Assumes nothing.
 use mathlib.Core.Path.{◌≡◌, refl, sym, ap, ap₂, ◌∙◌}
-use mathlib.Core.Bool.{Bool, true, false, cond, ◌||◌}
+use mathlib.Core.Bool.{Bool, true, false, cond, ◌||◌, or-true, or-false}
 use mathlib.Core.List.{List}
 use Prim.Native.Nat.{ℕ}
 use lib.ListN.{length}
@@ -24,7 +24,7 @@ use Rattle.methylation.specs.declared.EvidenceLengths.{EvidenceLengths}
 use Rattle.methylation.specs.declared.MethylationMode.{MethylationMode}
 use Rattle.methylation_evidence.proofs.Counts.{summed_length}
 use Rattle.refusals.proofs.Outcome.{refused_by, passed_by}
-use Rattle.duplex_texts.specs.Texts.{Strand, TextArrays, duplex_texts}
+use Rattle.duplex_texts.specs.Texts.{StrandAnnotation, TextArrays, duplex_texts}
 use Rattle.duplex_texts.specs.Outputs.{text_lengths, strand_lengths, given_faults, given_of, texts_too_short, texts_refused, DuplexTextsAs}
 use Rattle.duplex_texts.specs.declared.TextLengths.{TextLengths}
 use Rattle.duplex_texts.proofs.Refused.{is_long, is_uneven, as_long}
@@ -35,7 +35,7 @@ use Rattle.duplex_tags.specs.declared.KindLengths.{KindLengths}
 use Rattle.duplex_tags.proofs.Counts.{tag_length, places_by}
 
 pub needed_lengths :
-    (n : ℕ) (a b : Strand) (xs ys : List ℕ)
+    (n : ℕ) (a b : StrandAnnotation) (xs ys : List ℕ)
     → (is_annotated a.annotation ≡ true → length xs ≡ n)
     → (is_annotated b.annotation ≡ true → length ys ≡ n)
     → needed_counts n (strand_lengths a) (strand_lengths b) ≡ kind_lengths (kind_counts n a.annotation xs b.annotation ys)
@@ -43,14 +43,6 @@ unfolding kind_counts
 needed_lengths n a b xs ys for_a for_b =
     rw
     (places_by a.annotation n a.evidence, places_by b.annotation n b.evidence, tag_length a.annotation n xs for_a, tag_length b.annotation n ys for_b, summed_length n (counts_of a.annotation xs) (counts_of b.annotation ys))
-
-either_true : (s : Bool) → (s || true) ≡ true
-either_true true = refl
-either_true false = refl
-
-either_false : (s : Bool) → (s || false) ≡ s
-either_false true = refl
-either_false false = refl
 
 -- A call's three tests, one after another.
 abbrev rows : Bool → Bool → Bool → Option Refusal
@@ -81,16 +73,16 @@ module _ (large odd s f own : Bool) (same : two large odd ≡ None → own ≡ f
       go : (l o w : Bool) {row : Refusal} → (two l o ≡ None → w ≡ f) → rows l o w ≡ Some row → rows l o (s || f) ≡ Some row
       go true o w h e = e
       go false true w h e = e
-      go false false true h e = rw (sym (h refl), either_true s) e
+      go false false true h e = rw (sym (h refl), or-true s) e
       go false false false h e = absurd (none-some _ e)
 
   rest_left : own ≡ false → two large odd ≡ None → rows large odd s ≡ rows large odd (s || f)
-  rest_left o e = rw (sym (same e) ∙ o, either_false s)
+  rest_left o e = rw (sym (same e) ∙ o, or-false s)
 
 pub given_first : (n : ℕ) (a b : Option EvidenceLengths) (unconverted converted : KindLengths) {row : Refusal} → refused (given_faults n a b) ≡ Some row → counts_refused n a b unconverted converted ≡ Some row
 given_first n a b unconverted converted e = still _ _ _ e
 
-module _ (mode : MethylationMode) (bases : List ℕ) (a b : Strand) (texts : TextArrays) (counts : CountArrays) where
+module _ (mode : MethylationMode) (bases : List ℕ) (a b : StrandAnnotation) (texts : TextArrays) (counts : CountArrays) where
   abbrev large : Bool
   large = is_long (length bases) a b
 

@@ -5,7 +5,7 @@ use Rattle.refusals.specs.declared.Refusal.TheVariants.{OutputTooShort}
 use Rattle.refusals.specs.Refusal.{Fault, ◌if◌, refused}
 use Rattle.refusals.specs.Outcome.{answer, after}
 use Rattle.methylation.specs.declared.MethylationMode.{MethylationMode}
-use Rattle.duplex_texts.specs.Texts.{Strand, TextArrays, duplex_texts}
+use Rattle.duplex_texts.specs.Texts.{StrandAnnotation, TextArrays, duplex_texts}
 use Rattle.duplex_texts.specs.Outputs.{text_lengths, given_of, texts_too_short, LeavesTexts}
 use Rattle.duplex_texts.specs.declared.TextLengths.{TextLengths}
 use Rattle.duplex_tags.specs.Tags.{KindArrays, CountArrays, duplex_counts}
@@ -32,13 +32,13 @@ abbrev pub counts_too_short : CountArrays → CountArrays → Bool
 counts_too_short counts out = kind_too_short (kind_lengths counts.unconverted) (kind_lengths out.unconverted) || kind_too_short (kind_lengths counts.converted) (kind_lengths out.converted)
 
 -- The outputs of the texts, and those of the counts.
-abbrev pub duplex_faults : MethylationMode → List ℕ → Strand → Strand → TextArrays → CountArrays → List Fault
+abbrev pub duplex_faults : MethylationMode → List ℕ → StrandAnnotation → StrandAnnotation → TextArrays → CountArrays → List Fault
 duplex_faults mode bases a b texts counts =
     given_of bases a b
     ++ (OutputTooShort if (texts_too_short (text_lengths (duplex_texts mode bases a b)) (text_lengths texts) || counts_too_short (duplex_counts (length bases) a b) counts))
     ∷ []
 
-abbrev pub duplex_refused : MethylationMode → List ℕ → Strand → Strand → TextArrays → CountArrays → Option Refusal
+abbrev pub duplex_refused : MethylationMode → List ℕ → StrandAnnotation → StrandAnnotation → TextArrays → CountArrays → Option Refusal
 duplex_refused mode bases a b texts counts = refused (duplex_faults mode bases a b texts counts)
 
 -- What a call leaves in the outputs of one kind of counts, where it was refused or else writes these.
@@ -54,7 +54,7 @@ pub record LeavesCounts (refusal : Option Refusal) (counts before now : CountArr
 
 -- What a call of `duplex_methylation_tags` answers, how many positions there are and how many bytes each text and the ML array have,
 -- and leaves in its outputs.
-pub record DuplexTaggedAs (mode : MethylationMode) (bases : List ℕ) (a b : Strand) (texts : TextArrays) (counts : CountArrays) (texts_now : TextArrays) (counts_now : CountArrays) (r : Result TextLengths Refusal) : Type 0 where
+pub record DuplexTaggedAs (mode : MethylationMode) (bases : List ℕ) (a b : StrandAnnotation) (texts : TextArrays) (counts : CountArrays) (texts_now : TextArrays) (counts_now : CountArrays) (r : Result TextLengths Refusal) : Type 0 where
   pub answered : r ≡ answer (duplex_refused mode bases a b texts counts) (text_lengths (duplex_texts mode bases a b))
   pub the_texts : LeavesTexts (duplex_refused mode bases a b texts counts) (duplex_texts mode bases a b) texts texts_now
   pub the_counts : LeavesCounts (duplex_refused mode bases a b texts counts) (duplex_counts (length bases) a b) counts counts_now

@@ -3,7 +3,7 @@ use Rattle.std.specs.Prelude.{Option, ℕ, List}
 use Rattle.lists.specs.Part.{only_if}
 use Rattle.methylation.specs.Methylation.{is_annotated}
 use Rattle.methylation_evidence.specs.Counts.{tag_counts, summed_counts}
-use Rattle.duplex_texts.specs.Texts.{Strand}
+use Rattle.duplex_texts.specs.Texts.{StrandAnnotation}
 use Rattle.methylation.specs.declared.ConversionPattern.{ConversionPattern}
 
 -- Counts of a strand: none without an annotation.
@@ -34,7 +34,7 @@ pub record CountArrays : Type 0 where
 abbrev pub count_arrays : List ℕ → List ℕ → List ℕ → List ℕ → List ℕ → List ℕ → CountArrays
 count_arrays au ac bu bc u c = record { unconverted = kind_arrays au bu u; converted = kind_arrays ac bc c }
 
-abbrev pub duplex_counts : ℕ → Strand → Strand → CountArrays
+abbrev pub duplex_counts : ℕ → StrandAnnotation → StrandAnnotation → CountArrays
 duplex_counts n a b = record {
   unconverted = kind_counts n a.annotation a.evidence.unconverted b.annotation b.evidence.unconverted;
   converted = kind_counts n a.annotation a.evidence.converted b.annotation b.evidence.converted;

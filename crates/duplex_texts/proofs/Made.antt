@@ -15,7 +15,7 @@ use Rattle.lists.specs.Output.{put}
 use Rattle.lists.proofs.Output.{put_fitting, front_of}
 use Rattle.methylation.specs.declared.MethylationMode.{MethylationMode}
 use Rattle.mm_ml.specs.declared.TagLengths.{TagLengths}
-use Rattle.duplex_texts.specs.Texts.{Strand, TextArrays, duplex_seq, strand_mm, strand_ml, second_first, grouped, duplex_texts}
+use Rattle.duplex_texts.specs.Texts.{StrandAnnotation, TextArrays, duplex_seq, strand_mm, strand_ml, second_first, grouped, duplex_texts}
 use Rattle.duplex_texts.specs.Outputs.{text_lengths, RoomTexts, LeavesTexts}
 use Rattle.duplex_texts.specs.Parts.{AsLong, TextsAs, needed_for}
 use Rattle.duplex_texts.proofs.Texts.{seq_length, mm_most, ml_most, grouped_length}
@@ -25,14 +25,14 @@ fitting : (xs out : List ℕ) {now : List ℕ} → length xs ≤ length out → 
 fitting xs out h e = e ∙ put_fitting xs out h
 
 -- A strand's text and bytes stand at the fronts of their buffers.
-module _ {mode : MethylationMode} {seq : List ℕ} {s : Strand} {mm ml mm_now ml_now : List ℕ} {r : TagLengths} (t : TextsAs mode seq s mm ml mm_now ml_now r) where
+module _ {mode : MethylationMode} {seq : List ℕ} {s : StrandAnnotation} {mm ml mm_now ml_now : List ℕ} {r : TagLengths} (t : TextsAs mode seq s mm ml mm_now ml_now r) where
   pub text_front : take r.mm mm_now ≡ strand_mm mode seq s
   text_front = front_of _ mm t.text t.mm_length
 
   pub bytes_front : take r.ml ml_now ≡ strand_ml mode seq s
   bytes_front = front_of _ ml t.bytes t.ml_length
 
-module _ (mode : MethylationMode) (bases : List ℕ) (a b : Strand) where
+module _ (mode : MethylationMode) (bases : List ℕ) (a b : StrandAnnotation) where
   abbrev seq : List ℕ
   seq = duplex_seq bases a b
 
@@ -43,7 +43,7 @@ module _ (mode : MethylationMode) (bases : List ℕ) (a b : Strand) where
   made before e = front_of seq before e (sym size)
 
   -- What the texts ask of the strands.
-  pub long_against : {restored : List ℕ} → restored ≡ seq → {s : Strand} → AsLong (length bases) s → AsLong (length restored) s
+  pub long_against : {restored : List ℕ} → restored ≡ seq → {s : StrandAnnotation} → AsLong (length bases) s → AsLong (length restored) s
   long_against e long = rw (e, size) long
 
   module _ {a_mm a_ml b_mm b_ml a_mm_now a_ml_now b_mm_now b_ml_now : List ℕ} {ra rb : TagLengths} (of_a : TextsAs mode seq a a_mm a_ml a_mm_now a_ml_now ra) (of_b : TextsAs mode seq b b_mm b_ml b_mm_now b_ml_now rb) where

@@ -10,11 +10,11 @@ use native.Mathlib.Omega.{arith}
 use borrow.Author.Tests.{le-ltb}
 use lib.ListN.{length}
 use Rattle.methylation.specs.declared.MethylationMode.{MethylationMode}
-use Rattle.duplex_texts.specs.Texts.{Strand, TextArrays, duplex_seq, strand_mm, strand_ml, second_first, duplex_texts}
+use Rattle.duplex_texts.specs.Texts.{StrandAnnotation, TextArrays, duplex_seq, strand_mm, strand_ml, second_first, duplex_texts}
 use Rattle.duplex_texts.specs.Outputs.{text_lengths, RoomTexts, texts_too_short, most_texts}
 use Rattle.duplex_texts.proofs.Texts.{seq_length, mm_most, ml_most, grouped_length}
 
-module _ (mode : MethylationMode) (bases : List ℕ) (a b : Strand) (few : length bases ≤ 1024) where
+module _ (mode : MethylationMode) (bases : List ℕ) (a b : StrandAnnotation) (few : length bases ≤ 1024) where
   size : length (duplex_seq bases a b) ≡ length bases
   size = seq_length bases a.annotation a.evidence.marks b.annotation b.evidence.marks
 

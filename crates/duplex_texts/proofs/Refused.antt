@@ -1,5 +1,4 @@
 -- The refusal of a call that tests the sequence and the evidence first, and the room of its outputs after.
---     not_met, is_met              the test, by what it answers
 --     as_long                      what the first test leaves
 --     refused_given, refused_room, all_written     what the call answers and leaves, by the test that refused it, or by none
 -- Assumes nothing.
@@ -15,18 +14,17 @@ use Rattle.std.proofs.lemmas.Option.{none-some}
 use Rattle.refusals.specs.declared.Refusal.{Refusal}
 use Rattle.refusals.specs.declared.Refusal.TheVariants.{TooLong, Ragged, OutputTooShort}
 use Rattle.refusals.specs.Refusal.{refused}
-use Rattle.refusals.specs.Outcome.{refused_if}
 use Rattle.refusals.proofs.Condition.{Every, neither}
 use Rattle.methylation.specs.Methylation.{is_annotated}
 use Rattle.methylation.specs.declared.MethylationMode.{MethylationMode}
 use Rattle.methylation.specs.Arrays.{evidence_lengths, evidence_uneven, three}
 use Rattle.methylation.proofs.Arrays.{as_many_as, where_annotated}
-use Rattle.duplex_texts.specs.Texts.{Strand, TextArrays, duplex_texts}
+use Rattle.duplex_texts.specs.Texts.{StrandAnnotation, TextArrays, duplex_texts}
 use Rattle.duplex_texts.specs.Outputs.{text_lengths, strand_lengths, RoomTexts, long, uneven, given_of, texts_too_short, room_faults, texts_refused, LeavesTexts, DuplexTextsAs}
 use Rattle.duplex_texts.specs.Parts.{AsLong}
 use Rattle.duplex_texts.specs.declared.TextLengths.{TextLengths}
 
-strand_as_long : (n : ℕ) (s : Strand) → n ≤ 1024 → uneven n (strand_lengths s) ≡ false → AsLong n s
+strand_as_long : (n : ℕ) (s : StrandAnnotation) → n ≤ 1024 → uneven n (strand_lengths s) ≡ false → AsLong n s
 strand_as_long n s few e =
     let same : is_annotated s.annotation ≡ true → Every (λ k. k ≡ n) (three (evidence_lengths s.evidence)) = λ h. as_many_as n (evidence_lengths s.evidence) (where_annotated (evidence_uneven n) s.annotation s.evidence e h) in
     record {
@@ -36,29 +34,20 @@ strand_as_long n s few e =
       converted = λ h. (same h).1.1.0;
     }
 
--- By what a test answers.
-pub not_met : {b : Bool} (row : Refusal) {x : Unit {0}} → refused_if b row ≡ Ok x → b ≡ false
-not_met {b = true} row e = absurd cc
-not_met {b = false} row e = refl
-
-pub is_met : {b : Bool} (row : Refusal) {m : Refusal} → refused_if b row ≡ Err m → (b ≡ true) × (m ≡ row)
-is_met {b = true} row e = (refl, cc)
-is_met {b = false} row e = absurd cc
-
 -- Of the first two tests.
 clear : (large odd : Bool) → cond large (Some TooLong) (cond odd (Some Ragged) None) ≡ None → (large ≡ false) × (odd ≡ false)
 clear true odd e = absurd (none-some _ (sym e))
 clear false true e = absurd (none-some _ (sym e))
 clear false false e = (refl, refl)
 
-module _ (n : ℕ) (a b : Strand) where
+module _ (n : ℕ) (a b : StrandAnnotation) where
   abbrev pub is_long : Bool
   is_long = ltb 1024 n || (long (strand_lengths a) || long (strand_lengths b))
 
   abbrev pub is_uneven : Bool
   is_uneven = uneven n (strand_lengths a) || uneven n (strand_lengths b)
 
-pub as_long : (bases : List ℕ) (a b : Strand) → refused (given_of bases a b) ≡ None → AsLong (length bases) a × AsLong (length bases) b
+pub as_long : (bases : List ℕ) (a b : StrandAnnotation) → refused (given_of bases a b) ≡ None → AsLong (length bases) a × AsLong (length bases) b
 as_long bases a b e =
     let n = length bases in
     let (short, even) = clear (is_long n a b) (is_uneven n a b) e in
@@ -66,7 +55,7 @@ as_long bases a b e =
     let (first, second) = neither (uneven n (strand_lengths a)) (uneven n (strand_lengths b)) even in
     (strand_as_long n a few first, strand_as_long n b few second)
 
-module _ (mode : MethylationMode) (bases : List ℕ) (a b : Strand) (before : TextArrays) where
+module _ (mode : MethylationMode) (bases : List ℕ) (a b : StrandAnnotation) (before : TextArrays) where
   -- The room is tested where neither of the first two is met.
   by_given : {row : Refusal} → refused (given_of bases a b) ≡ Some row → texts_refused mode bases a b before ≡ Some row
   by_given e = go (is_long (length bases) a b) (is_uneven (length bases) a b) _ e

@@ -29,7 +29,7 @@ use Rattle.methylation_restore.proofs.Restored.{restored_length}
 use Rattle.mm_ml.specs.Tags.{Annotated, Evident, TaggedAs, calls, all_text, ml_byte, if_called, mm_text, ml_array, tags_if_called, tag_lengths}
 use Rattle.mm_ml.specs.declared.TagLengths.{TagLengths}
 use Rattle.mm_ml.proofs.Group as group
-use Rattle.duplex_texts.specs.Texts.{Strand, strand_in, restored_seq, against, by_pattern, strand_mm, strand_ml, grouped}
+use Rattle.duplex_texts.specs.Texts.{StrandAnnotation, strand_in, restored_seq, against, by_pattern, strand_mm, strand_ml, grouped}
 use Rattle.duplex_texts.specs.Parts.{AsLong, TextsAs}
 use Rattle.duplex_texts.proofs.Fits.{restore_fits, tags_fit}
 use Rattle.std.proofs.Common.{None, Some, Option, Result}
@@ -70,12 +70,12 @@ abbrev NoBytes : TagLengths → Type 0
 NoBytes r = (r.mm ≡ 0) × (r.ml ≡ 0)
 
 -- A strand without an annotation.
-pub no_texts : (mode : MethylationMode) (seq mm ml : List ℕ) (s : Strand) {r : TagLengths} → s.annotation ≡ None → NoBytes r → TextsAs mode seq s mm ml mm ml r
+pub no_texts : (mode : MethylationMode) (seq mm ml : List ℕ) (s : StrandAnnotation) {r : TagLengths} → s.annotation ≡ None → NoBytes r → TextsAs mode seq s mm ml mm ml r
 unfolding strand_mm strand_ml put
 no_texts mode seq mm ml s e none = record { mm_length = rw e none.0; ml_length = rw e none.1; text = rw e; bytes = rw e }
 
 -- What no row refuses, of a strand with an annotation.
-evident : (seq : List ℕ) (s : Strand) {pattern : ConversionPattern} → s.annotation ≡ Some pattern → AsLong (length seq) s → Evident (against seq s pattern)
+evident : (seq : List ℕ) (s : StrandAnnotation) {pattern : ConversionPattern} → s.annotation ≡ Some pattern → AsLong (length seq) s → Evident (against seq s pattern)
 evident seq s is long =
     let here = ap is_annotated is in
     record { few = long.few; marks = long.marks here; unconverted = long.unconverted here; converted = long.converted here }
@@ -115,7 +115,7 @@ some_texts mode seq mm ml {m = m} is long room t lengths =
 
 -- For callers: how long the outputs can need to be.
 module _ (mode : MethylationMode) (seq : List ℕ) (few : length seq ≤ 1024) where
-  pub mm_most : (s : Strand) → length (strand_mm mode seq s) ≤ 5 + 5 * length seq
+  pub mm_most : (s : StrandAnnotation) → length (strand_mm mode seq s) ≤ 5 + 5 * length seq
   unfolding strand_mm
   mm_most s = go s.annotation
     where
@@ -123,7 +123,7 @@ module _ (mode : MethylationMode) (seq : List ℕ) (few : length seq ≤ 1024) w
       go None = omega arith
       go (Some pattern) = group.mm_most (against seq s pattern) few mode
 
-  pub ml_most : (s : Strand) → length (strand_ml mode seq s) ≤ length seq
+  pub ml_most : (s : StrandAnnotation) → length (strand_ml mode seq s) ≤ length seq
   unfolding strand_ml
   ml_most s = go s.annotation
     where

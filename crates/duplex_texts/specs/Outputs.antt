@@ -8,14 +8,14 @@ use Rattle.refusals.specs.Outcome.{answer, after}
 use Rattle.methylation.specs.declared.MethylationMode.{MethylationMode}
 use Rattle.methylation.specs.Arrays.{annotated_lengths, evidence_too_long, evidence_uneven}
 use Rattle.methylation.specs.declared.EvidenceLengths.{EvidenceLengths}
-use Rattle.duplex_texts.specs.Texts.{Strand, TextArrays, duplex_texts}
+use Rattle.duplex_texts.specs.Texts.{StrandAnnotation, TextArrays, duplex_texts}
 use Rattle.duplex_texts.specs.declared.TextLengths.{TextLengths}
 
 abbrev pub text_lengths : TextArrays → TextLengths
 text_lengths t = record { seq = length t.seq; a_mm = length t.a_mm; b_mm = length t.b_mm; mm = length t.mm; ml = length t.ml }
 
 -- Those of a strand's evidence. It counts where there is an annotation.
-abbrev pub strand_lengths : Strand → Option EvidenceLengths
+abbrev pub strand_lengths : StrandAnnotation → Option EvidenceLengths
 strand_lengths s = annotated_lengths s.annotation s.evidence
 
 -- Row 7's condition for them, and row 8's beside so many bases.
@@ -32,7 +32,7 @@ given_faults bases a b =
     ∷ (Ragged if (uneven bases a || uneven bases b))
     ∷ []
 
-abbrev pub given_of : List ℕ → Strand → Strand → List Fault
+abbrev pub given_of : List ℕ → StrandAnnotation → StrandAnnotation → List Fault
 given_of bases a b = given_faults (length bases) (strand_lengths a) (strand_lengths b)
 
 -- Each output has room for what goes there.
@@ -55,10 +55,10 @@ texts_too_short needed out =
 abbrev pub room_faults : TextLengths → TextLengths → List Fault
 room_faults needed out = (OutputTooShort if texts_too_short needed out) ∷ []
 
-abbrev pub texts_faults : MethylationMode → List ℕ → Strand → Strand → TextLengths → List Fault
+abbrev pub texts_faults : MethylationMode → List ℕ → StrandAnnotation → StrandAnnotation → TextLengths → List Fault
 texts_faults mode bases a b out = given_of bases a b ++ room_faults (text_lengths (duplex_texts mode bases a b)) out
 
-abbrev pub texts_refused : MethylationMode → List ℕ → Strand → Strand → TextArrays → Option Refusal
+abbrev pub texts_refused : MethylationMode → List ℕ → StrandAnnotation → StrandAnnotation → TextArrays → Option Refusal
 texts_refused mode bases a b before = refused (texts_faults mode bases a b (text_lengths before))
 
 -- What a call leaves in its outputs, where it was refused or else writes these texts.
@@ -70,7 +70,7 @@ pub record LeavesTexts (refusal : Option Refusal) (texts before now : TextArrays
   pub ml : now.ml ≡ after refusal texts.ml before.ml
 
 -- What a call of `duplex_texts` answers, how many bytes go to each output, and leaves in its outputs.
-pub record DuplexTextsAs (mode : MethylationMode) (bases : List ℕ) (a b : Strand) (before now : TextArrays) (r : Result TextLengths Refusal) : Type 0 where
+pub record DuplexTextsAs (mode : MethylationMode) (bases : List ℕ) (a b : StrandAnnotation) (before now : TextArrays) (r : Result TextLengths Refusal) : Type 0 where
   pub answered : r ≡ answer (texts_refused mode bases a b before) (text_lengths (duplex_texts mode bases a b))
   pub outputs : LeavesTexts (texts_refused mode bases a b before) (duplex_texts mode bases a b) before now
 

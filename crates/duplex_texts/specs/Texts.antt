@@ -11,33 +11,33 @@ use Rattle.methylation_restore.specs.Restore.{strand_bases}
 use Rattle.mm_ml.specs.Tags.{Annotated, annotated, mm_text, ml_array}
 
 -- A strand's annotation with its evidence. Without an annotation the arrays are not looked at.
-pub record Strand : Type 0 where
+pub record StrandAnnotation : Type 0 where
   pub annotation : Option ConversionPattern
   pub evidence : EvidenceArrays
 
-abbrev pub strand : Option ConversionPattern → List ℕ → List ℕ → List ℕ → Strand
+abbrev pub strand : Option ConversionPattern → List ℕ → List ℕ → List ℕ → StrandAnnotation
 strand annotation marks unconverted converted = record {
   annotation = annotation;
   evidence = evidence_arrays marks unconverted converted;
 }
 
 -- That of an annotation that is lent, or of none.
-abbrev pub strand_in : Option MethylationAnnotation → Strand
+abbrev pub strand_in : Option MethylationAnnotation → StrandAnnotation
 strand_in s = record { annotation = pattern_held s; evidence = evidence_held s }
 
 -- As far as it is looked at.
-abbrev pub seen_of : Strand → Strand
+abbrev pub seen_of : StrandAnnotation → StrandAnnotation
 seen_of s = record { annotation = s.annotation; evidence = evidence_seen s.annotation s.evidence }
 
 -- The record's sequence: restored by the first strand's annotation, and then by the second's.
 unfoldable pub restored_seq : List ℕ → Option ConversionPattern → List ℕ → Option ConversionPattern → List ℕ → List ℕ
 restored_seq bases a a_marks b b_marks = strand_bases b b_marks (strand_bases a a_marks bases)
 
-abbrev pub duplex_seq : List ℕ → Strand → Strand → List ℕ
+abbrev pub duplex_seq : List ℕ → StrandAnnotation → StrandAnnotation → List ℕ
 duplex_seq bases a b = restored_seq bases a.annotation a.evidence.marks b.annotation b.evidence.marks
 
 -- A strand of some pattern, against a sequence.
-abbrev pub against : List ℕ → Strand → ConversionPattern → Annotated
+abbrev pub against : List ℕ → StrandAnnotation → ConversionPattern → Annotated
 against seq s pattern = annotated seq pattern s.evidence.marks s.evidence.unconverted s.evidence.converted
 
 -- What there is by the pattern of an annotation: nothing without one.
@@ -46,12 +46,12 @@ by_pattern None f = []
 by_pattern (Some pattern) f = f pattern
 
 -- A strand's MM text against a sequence.
-unfoldable pub strand_mm : MethylationMode → List ℕ → Strand → List ℕ
+unfoldable pub strand_mm : MethylationMode → List ℕ → StrandAnnotation → List ℕ
 strand_mm mode seq s =
     by_pattern s.annotation (λ pattern. mm_text mode (against seq s pattern))
 
 -- Its ML bytes.
-unfoldable pub strand_ml : MethylationMode → List ℕ → Strand → List ℕ
+unfoldable pub strand_ml : MethylationMode → List ℕ → StrandAnnotation → List ℕ
 strand_ml mode seq s =
     by_pattern s.annotation (λ pattern. ml_array mode (against seq s pattern))
 
@@ -80,7 +80,7 @@ abbrev pub text_arrays : List ℕ → List ℕ → List ℕ → List ℕ → Lis
 text_arrays seq a_mm b_mm mm ml = record { seq = seq; a_mm = a_mm; b_mm = b_mm; mm = mm; ml = ml }
 
 -- Those of a sequence that is restored already.
-abbrev pub texts_against : MethylationMode → List ℕ → Strand → Strand → TextArrays
+abbrev pub texts_against : MethylationMode → List ℕ → StrandAnnotation → StrandAnnotation → TextArrays
 texts_against mode seq a b =
     let order = second_first a.annotation b.annotation in
     record {
@@ -91,5 +91,5 @@ texts_against mode seq a b =
       ml = grouped order (strand_ml mode seq a) (strand_ml mode seq b);
     }
 
-unfoldable pub duplex_texts : MethylationMode → List ℕ → Strand → Strand → TextArrays
+unfoldable pub duplex_texts : MethylationMode → List ℕ → StrandAnnotation → StrandAnnotation → TextArrays
 duplex_texts mode bases a b = texts_against mode (duplex_seq bases a b) a b

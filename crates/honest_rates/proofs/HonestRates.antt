@@ -12,14 +12,16 @@ use lib.Ieee.{binary32, fin, fits, of_int, div, to_bits}
 use lib.Ieee.Fits.{cond-fits, div-fits}
 use lib.Ieee.Bits.{to_bits-lt}
 use lib.IntN.{pos}
-use Rattle.std.proofs.Common.{Option, Some, None, Result, Ok, Err}
+use Rattle.std.proofs.Common.{Option, None, Result, Ok, Err}
 use Rattle.lists.specs.Output.{put}
 use Rattle.lists.specs.Part.{only_if}
 use Rattle.lists.proofs.Output.{front_of}
 use Rattle.refusals.specs.declared.Refusal.{Refusal}
 use Rattle.refusals.specs.Refusal.{number_of as row_number, number_or_0}
 use Rattle.refusals.specs.Outcome.{answer, after as left_after}
+use Rattle.refusals.proofs.Claims.{no_number}
 use Rattle.refusals.proofs.InOrder.{numbered_from_1}
+use Rattle.refusals.proofs.Outcome.{passed_by}
 use Rattle.rates.specs.Rate as rate
 use Rattle.rates.specs.Rate.{rate_of, bits_of, gap}
 use Rattle.rates.proofs.Rates.{close, exact}
@@ -33,7 +35,7 @@ use Rattle.duplex_metrics.proofs.Returned.{record_is}
 use Rattle.metrics_bits.specs.Bits.{in_bits, metrics_words}
 use Rattle.metrics_bits.specs.declared.MetricsBits.{MetricsBits}
 use Rattle.c_metrics.specs.Bytes.{MetricsAs, MetricsEntry, seen, decoded, entry_refused, record_words, metrics_bytes}
-use Rattle.c_metrics.proofs.Bytes.{clear, no_refusal}
+use Rattle.c_metrics.proofs.Bytes.{clear}
 use Rattle.replies.specs.Choices.{yes}
 use Rattle.rust_metrics.specs.Answers.{metrics_reply}
 use Rattle.rust_metrics.specs.declared.MetricsReply.{MetricsReply}
@@ -42,7 +44,7 @@ use Rattle.line_format.specs.Line.{line_text}
 use Rattle.line_record.specs.declared.Line.{Line}
 use Rattle.line_molecule.specs.Line.{text_of, TextIn}
 use Rattle.honest_rates.specs.Text.{column, numbers_in}
-use Rattle.honest_rates.specs.HonestRates.{Own, word, text, Returned, floats, as_bits, in_bytes, for_c, in_reply, printed, Rate, aE, bE, cE, bits, Measured, measured, from_numbers, from_bytes, from_molecule, over, errors_of, depths_of, error_sum, depth_sum, EqualRates, CloseRates}
+use Rattle.honest_rates.specs.HonestRates.{Own, kind_word, text, Returned, floats, as_bits, in_bytes, for_c, in_reply, printed, Rate, aE, bE, cE, bits, Measured, measured, from_numbers, from_bytes, from_molecule, over, errors_of, depths_of, error_sum, depth_sum, EqualRates, CloseRates}
 use Rattle.honest_rates.proofs.Text.{column_bases, column_errors, column_a_e, column_b_e, column_c_e, numbers_back}
 use Rattle.honest_rates.proofs.Line.{kind_in, IsRecord, record_printed}
 use Rattle.honest_rates.proofs.Bytes.{word_at}
@@ -114,7 +116,7 @@ module _ (x : Input) (before after : List ℕ) (e : MetricsAs x before after (Ok
   made = record_of y
 
   passed : entry_refused x before ≡ None
-  passed = no_refusal (entry_refused x before) (sym e.answered)
+  passed = (passed_by (entry_refused x before) tt (sym e.answered)).0
 
   is_record : metrics_of y ≡ Ok made
   is_record = ap (λ (row : Option Refusal). answer row (record_of y)) (clear x before (ap number_or_0 passed)).0
@@ -137,16 +139,11 @@ module _ (x : Input) (before after : List ℕ) (e : MetricsAs x before after (Ok
   place_bits : (p : Rate) → in_place after p ≡ behind (from_bytes x.a x.a_errors x.second x.b x.b_errors x.errors) p
   place_bits p = place_word p ∙ word_bits y (in_bits made) words_are p
 
--- No refusal has the number 0.
-not_refused : (row : Option Refusal) → number_or_0 row ≡ 0 → row ≡ None
-not_refused None z = refl
-not_refused (Some row) z = absurd (eqb-false (row_number row) 0 (numbered_from_1 row) z)
-
 -- For C: an answer as a number, and of an absent second strand nothing is looked at.
 module _ (x : Input) (before after : List ℕ) (e : MetricsEntry (seen x) before after 0) where
   accepted : MetricsAs (seen x) before after (Ok tt)
   accepted = record {
-    answered = ap (λ (row : Option Refusal). answer {A = Unit {0}} row tt) (sym (not_refused (entry_refused (seen x) before) (sym e.answered)));
+    answered = ap (λ (row : Option Refusal). answer {A = Unit {0}} row tt) (sym (no_number (entry_refused (seen x) before) (sym e.answered)));
     left = e.left;
   }
 
@@ -188,7 +185,7 @@ in_column l aE = value_of (column 7 l)
 in_column l bE = value_of (column 10 l)
 in_column l cE = value_of (column 13 l)
 
-module _ (bytes : List ℕ) (line : Line) (own : Own) (t : TextIn (text_of bytes) line) (f : column 0 (text line) ≡ word own) where
+module _ (bytes : List ℕ) (line : Line) (own : Own) (t : TextIn (text_of bytes) line) (f : column 0 (text line) ≡ kind_word own) where
   text_is : text line ≡ text_of bytes
   text_is = front_of (text_of bytes) _ t.bytes t.size
 

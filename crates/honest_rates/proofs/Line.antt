@@ -2,7 +2,7 @@
 use mathlib.Core.Path.{◌≡◌, refl, sym, ap, subst, ◌∙◌}
 use mathlib.Core.Bool.{Bool, true, false, cond, not, ◌&&◌, ◌||◌, true≢false}
 use mathlib.Core.List.{List, [], ◌∷◌}
-use Prim.Native.Nat.{ℕ, ◌+◌, ◌≤◌, min}
+use Prim.Native.Nat.{ℕ, ◌+◌, ◌≤◌}
 use native.Mathlib.Omega.{arith}
 use lib.Dec.{leb}
 use lib.ListN.{length, take, get_or, length-append, length-take, length-drop, length-replicate}
@@ -13,7 +13,7 @@ use Rattle.lists.specs.Part.{only_if}
 use Rattle.refusals.specs.declared.Refusal.{Refusal}
 use Rattle.refusals.specs.declared.Refusal.TheVariants.{Broken}
 use Rattle.refusals.specs.Refusal.{◌if◌, number_of, too_long}
-use Rattle.refusals.specs.Outcome.{answer, after, by_number}
+use Rattle.refusals.specs.Outcome.{answer, after, by_number, zeros}
 use Rattle.refusals.proofs.Claims.{none_lost}
 use Rattle.refusals.proofs.Condition.{both_hold, neither, not_too_long}
 use Rattle.byte_numbers.specs.Bytes.{words16}
@@ -27,6 +27,7 @@ use Rattle.duplex_min_reads.specs.MinReads.{refused}
 use Rattle.duplex_gate.specs.ConsensusGate.{consensus_gate}
 use Rattle.duplex_kind.specs.Kind.{Strand, given, positions, record_length, covered, kind_of, long, strand_faults}
 use Rattle.duplex_kind.specs.declared.DuplexConsensus.TheVariants.{Ab, Ba, Both}
+use Rattle.duplex_kind.proofs.Kind.{few_record}
 use Rattle.duplex_metrics.specs.Metrics.{Input, input, metrics_of}
 use Rattle.metrics_bits.specs.Bits.{metrics_words}
 use Rattle.metrics_bits.specs.declared.MetricsBits.{MetricsBits}
@@ -37,10 +38,10 @@ use Rattle.line_format.specs.declared.Kind.{Kind}
 use Rattle.line_format.specs.declared.Kind.TheVariants.{Ab as Ab-kind, Ba as Ba-kind, Both as Both-kind}
 use Rattle.line_report.specs.Report.{Strands, strands, gated_report, front_input, record_report, some_report, reported}
 use Rattle.line_record.specs.Line.{front, report_text, answer_text}
-use Rattle.line_strands.specs.Strands.{zeros, refusal_of, record_in, counts_of, strands_text}
+use Rattle.line_strands.specs.Strands.{refusal_of, record_in, counts_of, strands_text}
 use Rattle.line_molecule.specs.Line.{value_or, thresholds_of, strand_in, read_text, text_unless, molecule_text, decoded_text, text_of}
 use Rattle.honest_rates.specs.Text.{column}
-use Rattle.honest_rates.specs.HonestRates.{Own, ab, ba, both, word, from_numbers, from_molecule}
+use Rattle.honest_rates.specs.HonestRates.{Own, ab, ba, both, kind_word, from_numbers, from_molecule}
 use Rattle.honest_rates.proofs.Text.{column_kind, none_word, refused_word}
 
 abbrev pub kind_in : Own → Kind
@@ -73,15 +74,6 @@ few_bases s h = go s.present h
         let four : List ℕ = length s.bases ∷ length s.quals ∷ length (words16 s.depths) ∷ length (words16 s.errors) ∷ [] in
         (not_too_long four (neither (too_long four) _ h).0).0
     go false h = omega arith
-
-few_record : (a b : Strand) → positions a ≤ 1024 → positions b ≤ 1024 → record_length a b ≤ 1024
-few_record a b ha hb = go a.present b.present
-  where
-    go : (pa pb : Bool) → cond pa (cond pb (min (positions a) (positions b)) (positions a)) (cond pb (positions b) 0) ≤ 1024
-    go true true = omega arith
-    go true false = ha
-    go false true = hb
-    go false false = omega arith
 
 -- So many places of a buffer of 1,024 to whose front something was written.
 in_front : (n : ℕ) (xs : List ℕ) → n ≤ 1024 → length (take n (put xs zeros)) ≡ n
@@ -241,7 +233,7 @@ outcome bytes = go (accepted bytes) refl
     go false e = no_call 13 refl
 
 -- The kinds' words differ from each other in the second letter, and from the others' in the first.
-same_own : (p q : Own) → kind_text (kind_in p) ≡ word q → p ≡ q
+same_own : (p q : Own) → kind_text (kind_in p) ≡ kind_word q → p ≡ q
 unfolding kind_text
 same_own ab ab e = refl
 same_own ba ba e = refl
@@ -253,20 +245,20 @@ same_own ba both e = absurd (let no : ◌≡◌ {A = ℕ} 97 111 = ap (λ (w : L
 same_own both ab e = absurd (let no : ◌≡◌ {A = ℕ} 111 98 = ap (λ (w : List ℕ). get_or w 1 0) e in omega arith)
 same_own both ba e = absurd (let no : ◌≡◌ {A = ℕ} 111 97 = ap (λ (w : List ℕ). get_or w 1 0) e in omega arith)
 
-first_letter : (own : Own) → (97 ≤ get_or (word own) 0 0) × (get_or (word own) 0 0 ≤ 98)
+first_letter : (own : Own) → (97 ≤ get_or (kind_word own) 0 0) × (get_or (kind_word own) 0 0 ≤ 98)
 first_letter ab = (omega arith, omega arith)
 first_letter ba = (omega arith, omega arith)
 first_letter both = (omega arith, omega arith)
 
-pub record_printed : (bytes : List ℕ) (own : Own) → column 0 (text_of bytes) ≡ word own → IsRecord bytes own (text_of bytes)
+pub record_printed : (bytes : List ℕ) (own : Own) → column 0 (text_of bytes) ≡ kind_word own → IsRecord bytes own (text_of bytes)
 record_printed bytes own e = go (outcome bytes)
   where
     go : Outcome bytes (text_of bytes) → IsRecord bytes own (text_of bytes)
     go (no_call n is) =
-        let first : 0 ≡ get_or (word own) 0 0 = ap (λ (w : List ℕ). get_or w 0 0) (sym (refused_word n) ∙ sym (ap (column 0) is) ∙ e) in
+        let first : 0 ≡ get_or (kind_word own) 0 0 = ap (λ (w : List ℕ). get_or w 0 0) (sym (refused_word n) ∙ sym (ap (column 0) is) ∙ e) in
         absurd (omega (arith, (first_letter own).0))
     go (no_record is) =
-        let first : 110 ≡ get_or (word own) 0 0 = ap (λ (w : List ℕ). get_or w 0 0) (sym none_word ∙ sym (ap (column 0) is) ∙ e) in
+        let first : 110 ≡ get_or (kind_word own) 0 0 = ap (λ (w : List ℕ). get_or w 0 0) (sym none_word ∙ sym (ap (column 0) is) ∙ e) in
         absurd (omega (arith, (first_letter own).1))
     go (a_record p r) =
         subst (λ (q : Own). IsRecord bytes q (text_of bytes)) (same_own p own (sym (column_kind (kind_in p) r.kept r.c r.metrics) ∙ sym (ap (column 0) r.is) ∙ e)) r

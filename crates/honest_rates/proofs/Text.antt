@@ -15,7 +15,8 @@ use lib.ListN.{length, drop, get_or, length-append}
 use Rattle.lists.specs.Every.{every}
 use Rattle.refusals.proofs.Condition.{both_hold}
 use Rattle.decimal.specs.Decimal.{decimal, value_of, listed}
-use Rattle.decimal.proofs.Decimal.{Each, by_tenths, length_one, length_more, only_digits, value_decimal}
+use Rattle.decimal.proofs.Decimal as digits
+use Rattle.decimal.proofs.Decimal.{by_tenths, length_one, length_more, value_decimal}
 use Rattle.hexadecimal.specs.Hexadecimal.{hex_digit, hexadecimal}
 use Rattle.hexadecimal.proofs.Hexadecimal.{each_digit}
 use Rattle.metrics_bits.specs.declared.MetricsBits.{MetricsBits}
@@ -54,13 +55,8 @@ module _ (ends : ℕ → Bool) where
       let (here, later) = both_hold (not (ends x)) (every (λ c. not (ends c)) v) h in
       rw (here, whole_append v w later k)
 
-  from_each : (w : List ℕ) → Each (λ c. ends c ≡ false) w → Whole w
-  unfolding every
-  from_each [] h = refl
-  from_each (x ∷ w) h = rw h.0 (from_each w h.1)
-
   whole_decimal : ((d : ℕ) → d < 10 → ends (48 + d) ≡ false) → (n : ℕ) → Whole (decimal n)
-  whole_decimal so n = from_each (decimal n) (only_digits (λ c. ends c ≡ false) so n)
+  whole_decimal so n = digits.each_digit (λ c. not (ends c)) (λ d h. ap not (so d h)) n
 
 abbrev Word : List ℕ → Type 0
 Word w = Whole ends_word w

@@ -34,10 +34,10 @@ pub data Own : Type 0 where
   ba : Own
   both : Own
 
-abbrev pub word : Own → List ℕ
-word ab = ascii "ab"
-word ba = ascii "ba"
-word both = ascii "both"
+abbrev pub kind_word : Own → List ℕ
+kind_word ab = ascii "ab"
+kind_word ba = ascii "ba"
+kind_word both = ascii "both"
 
 -- The text of a line, which duplexline prints.
 abbrev pub text : Line → List ℕ
@@ -63,7 +63,7 @@ pub data Returned : Type 0 where
       → r.refused ≡ 0
       → Returned
   -- `duplex_line`, all that duplexline prints, where the line is a record's
-  printed : (bytes : List ℕ) (line : Line) (own : Own) → TextIn (text_of bytes) line → column 0 (text line) ≡ word own → Returned
+  printed : (bytes : List ℕ) (line : Line) (own : Own) → TextIn (text_of bytes) line → column 0 (text line) ≡ kind_word own → Returned
 
 -- One of its three rates.
 pub data Rate : Type 0 where
@@ -135,8 +135,8 @@ abbrev pub cap : ℕ → ℕ
 cap n = min n 32767
 
 -- Each capped, and all added.
-abbrev pub capped : List ℕ → ℕ
-capped ns = total (map cap ns)
+abbrev pub capped_total : List ℕ → ℕ
+capped_total ns = total (map cap ns)
 
 -- The depths of a record: at each of its positions both strands', each capped, and then added. Past a strand's end they are 0.
 abbrev pub both_capped : ℕ → List ℕ → List ℕ → ℕ
@@ -144,13 +144,13 @@ both_capped positions a b = total (tabulate positions (λ i. cap (get_or a i 0) 
 
 -- The sums behind a rate.
 abbrev pub errors_of : Measured → Rate → ℕ
-errors_of m aE = capped m.a_errors
-errors_of m bE = capped m.b_errors
-errors_of m cE = capped m.errors
+errors_of m aE = capped_total m.a_errors
+errors_of m bE = capped_total m.b_errors
+errors_of m cE = capped_total m.errors
 
 abbrev pub depths_of : Measured → Rate → ℕ
-depths_of m aE = capped m.a
-depths_of m bE = capped m.b
+depths_of m aE = capped_total m.a
+depths_of m bE = capped_total m.b
 depths_of m cE = both_capped (length m.errors) m.a m.b
 
 abbrev pub error_sum : Returned → Rate → ℕ

@@ -3,9 +3,9 @@
 --     the_reads     of specs/Claims.antt's `TheReads`
 -- Assumes nothing.
 use mathlib.Core.Path.{◌≡◌, refl, sym, ap, subst, ◌∙◌}
-use mathlib.Core.Bool.{Bool, true, false, cond, not, ◌&&◌, ◌||◌}
+use mathlib.Core.Bool.{Bool, true, false, cond, not, ◌&&◌, ◌||◌, and-false}
 use mathlib.Core.List.{List, [], ◌∷◌}
-use Prim.Native.Nat.{ℕ, ◌+◌, ◌≤◌, min}
+use Prim.Native.Nat.{ℕ, ◌+◌, ◌≤◌}
 use native.Mathlib.Omega.{arith}
 use lib.ListN.{length, drop, length-map, length-append, length-drop, length-replicate}
 use Rattle.std.proofs.Common.{Option, Some, None, Result, Ok}
@@ -15,7 +15,7 @@ use Rattle.lists.specs.Part.{only_if}
 use Rattle.refusals.specs.declared.Refusal.{Refusal}
 use Rattle.refusals.specs.declared.Refusal.TheVariants.{Broken, TooLong, Ragged, TooManyReads, PartOutside}
 use Rattle.refusals.specs.Refusal.{number_of, too_long, ragged, too_many}
-use Rattle.refusals.specs.Outcome.{answer, after, by_number}
+use Rattle.refusals.specs.Outcome.{answer, after, by_number, zeros}
 use Rattle.refusals.proofs.Condition.{neither}
 use Rattle.byte_numbers.specs.Bytes.{words16, words32}
 use Rattle.fields.specs.Encoding.{Field, encoded, whole_fields}
@@ -32,6 +32,7 @@ use Rattle.molecule_strand.specs.Strand.{StrandBytes, strand_bytes, strand_of}
 use Rattle.duplex_min_reads.specs.MinReads.{refused}
 use Rattle.duplex_kind.specs.Kind.{Strand, given, positions, record_length, covered, kind_of, long, uneven}
 use Rattle.duplex_kind.specs.declared.DuplexConsensus.TheVariants.{Ab, Ba, Both}
+use Rattle.duplex_kind.proofs.Kind.{few_record}
 use Rattle.duplex_metrics.specs.Metrics.{input}
 use Rattle.molecule_consensus.specs.Bytes.{seen, misfit}
 use Rattle.line_format.specs.Line.{Columns, columns, refused_text}
@@ -40,7 +41,7 @@ use Rattle.line_format.specs.declared.Kind.TheVariants.{Ab as Ab-kind, Ba as Ba-
 use Rattle.line_report.specs.Report.{Strands, strands, some_report, reported}
 use Rattle.line_report.specs.declared.Report.{Report}
 use Rattle.line_record.specs.Line.{front, report_text, answer_text}
-use Rattle.line_strands.specs.Strands.{zeros, refusal_of, record_in, counts_of, strands_text}
+use Rattle.line_strands.specs.Strands.{refusal_of, record_in, counts_of, strands_text}
 use Rattle.line_molecule.specs.Line.{value_or, annotation_in, strand_in, read_text, text_unless, molecule_text}
 use Rattle.line_claims.specs.Claims.{places, Printed, none, record_line, TheReads}
 use Rattle.line_claims.proofs.Places.{Sized, value, strand_in_lem, same_value, sized_a, sized_b}
@@ -58,10 +59,6 @@ cleared true u t e = absurd cc
 cleared false true t e = absurd cc
 cleared false false t e = (refl, refl)
 
-and_none : (b : Bool) → (b && false) ≡ false
-and_none true = refl
-and_none false = refl
-
 -- A buffer of 1,024 places to whose front something was written.
 ample : (xs : List ℕ) → 1024 ≤ length (put xs zeros)
 unfolding put
@@ -75,15 +72,6 @@ few_positions s h = go s.present
     go : (b : Bool) → length (cond b s.bases []) ≤ 1024
     go true = h
     go false = omega arith
-
-few_record : (a b : Strand) → positions a ≤ 1024 → positions b ≤ 1024 → record_length a b ≤ 1024
-few_record a b ha hb = go a.present b.present
-  where
-    go : (pa pb : Bool) → cond pa (cond pb (min (positions a) (positions b)) (positions a)) (cond pb (positions b) 0) ≤ 1024
-    go true true = omega arith
-    go true false = ha
-    go false true = hb
-    go false false = omega arith
 
 -- The text of a report that is no refusal.
 printed : {kind : Kind} {n : ℕ} {r : Result Report Refusal} (c : Columns) → Measured kind n r → Printed (report_text (some_report r) c)
@@ -106,14 +94,14 @@ module _
 
     row_is : refusal_of a b listed run ≡ own_row pa pb reads
     row_is =
-        let fits : (misfit (seen a) || (misfit (seen b) || (listed && not (is_run run)))) ≡ false = rw (sa.fits, sb.fits, whole) (and_none listed) in
+        let fits : (misfit (seen a) || (misfit (seen b) || (listed && not (is_run run)))) ≡ false = rw (sa.fits, sb.fits, whole) (and-false listed) in
         let l : (long (given A) || long (given B)) ≡ (too_long pa || too_long pb) = rw (sa.long_is, sb.long_is) in
         let u : (uneven (given A) || uneven (given B)) ≡ (ragged pa || ragged pb) = rw (sa.uneven_is, sb.uneven_is) in
         ap (λ (x : Bool). all_rows x (long (given A) || long (given B)) (uneven (given A) || uneven (given B)) (listed && too_many (length (reads_of run) ∷ [])) (listed && false)) fits
         ∙ ap (λ (x : Bool). all_rows false x (uneven (given A) || uneven (given B)) (listed && too_many (length (reads_of run) ∷ [])) (listed && false)) l
         ∙ ap (λ (x : Bool). all_rows false (too_long pa || too_long pb) x (listed && too_many (length (reads_of run) ∷ [])) (listed && false)) u
         ∙ ap (λ (x : Bool). all_rows false (too_long pa || too_long pb) (ragged pa || ragged pb) x (listed && false)) counted
-        ∙ ap (λ (x : Bool). all_rows false (too_long pa || too_long pb) (ragged pa || ragged pb) (too_many (reads ∷ [])) x) (and_none listed)
+        ∙ ap (λ (x : Bool). all_rows false (too_long pa || too_long pb) (ragged pa || ragged pb) (too_many (reads ∷ [])) x) (and-false listed)
 
     abbrev S : Strands
     S = strands (counts_of a) (counts_of b)

@@ -4,7 +4,7 @@
 --     sized_a, sized_b     that this is so of both strands of a molecule
 -- Assumes nothing.
 use mathlib.Core.Path.{◌≡◌, refl, sym, ◌∙◌}
-use mathlib.Core.Bool.{Bool, true, false, cond, not, ◌&&◌, ◌||◌, true≢false}
+use mathlib.Core.Bool.{Bool, true, false, cond, not, ◌&&◌, ◌||◌, true≢false, or-false}
 use mathlib.Core.List.{List, [], ◌∷◌}
 use Prim.Native.Nat.{ℕ, ◌+◌, ◌-◌, ◌/◌, ◌%◌, ◌≤◌}
 use native.Mathlib.Omega.{arith}
@@ -49,10 +49,6 @@ pub record Fitting (present annotated : Bool) (b q d e v : List ℕ) : Type 0 wh
   pub carried : annotated ≡ true → present ≡ true
   pub empty : present ≡ false → (length b ≡ 0) × (length q ≡ 0) × (length d ≡ 0) × (length e ≡ 0)
 
-or_none : (a : Bool) → (a || false) ≡ a
-or_none true = refl
-or_none false = refl
-
 five : (a b c d e : Bool) → ((a || (b || (c || d))) || (e || (e || e))) ≡ (a || (b || (c || (d || e))))
 five true b c d e = refl
 five false true c d e = refl
@@ -82,7 +78,7 @@ module _ (p : ℕ) (b q d e v : List ℕ) where
       rw
       (length_numbers 2 d, length_numbers 2 e, length_by_group 9 mark_in (drop 1 v), length_by_group 9 (count_in 1) (drop 1 v), length_by_group 9 (count_in 5) (drop 1 v), length-drop 1 v)
       (five (ltb 1024 (length b)) (ltb 1024 (length q)) (ltb 1024 (length d / 2)) (ltb 1024 (length e / 2)) (ltb 1024 ((length v - 1) / 9)))
-  long_of true false w = rw (length_numbers 2 d, length_numbers 2 e) (or_none (too_long (lengths_of_lem false)))
+  long_of true false w = rw (length_numbers 2 d, length_numbers 2 e) (or-false (too_long (lengths_of_lem false)))
   long_of false true w = absurd (true≢false (sym (w.carried refl)))
   long_of false false w =
       let (nb, nq, nd, ne) = w.empty refl in
@@ -94,7 +90,7 @@ module _ (p : ℕ) (b q d e v : List ℕ) where
       rw
       (length_numbers 2 d, length_numbers 2 e, length_by_group 9 mark_in (drop 1 v), length_by_group 9 (count_in 1) (drop 1 v), length_by_group 9 (count_in 5) (drop 1 v), length-drop 1 v)
       (five false (not (eqb (length q) (length b))) (not (eqb (length d / 2) (length b))) (not (eqb (length e / 2) (length b))) (not (eqb ((length v - 1) / 9) (length b))))
-  uneven_of true false w = rw (length_numbers 2 d, length_numbers 2 e) (or_none (ragged (lengths_of_lem false)))
+  uneven_of true false w = rw (length_numbers 2 d, length_numbers 2 e) (or-false (ragged (lengths_of_lem false)))
   uneven_of false true w = absurd (true≢false (sym (w.carried refl)))
   uneven_of false false w =
       let (nb, nq, nd, ne) = w.empty refl in

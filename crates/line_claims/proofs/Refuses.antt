@@ -1,6 +1,6 @@
 -- What duplexline prints for every input: `refuses` and `otherwise`, of specs/Claims.antt. Assumes nothing.
 use mathlib.Core.Path.{◌≡◌, refl, sym, ap, ◌∙◌}
-use mathlib.Core.Bool.{Bool, true, false, cond, ◌&&◌}
+use mathlib.Core.Bool.{Bool, true, false, ◌&&◌}
 use mathlib.Core.List.{List, [], ◌∷◌}
 use Prim.Native.Nat.{ℕ}
 use native.Mathlib.Omega.{arith}
@@ -10,14 +10,16 @@ use lib.ListN.{length, get_or}
 use Rattle.std.proofs.Common.{Option, Some, None, Ok, unwrap_or}
 use Rattle.std.specs.Prelude.{option_map}
 use Rattle.refusals.specs.declared.Refusal.{Refusal}
-use Rattle.refusals.specs.declared.Refusal.TheVariants.{Broken, NoThresholds, TooManyThresholds, XyAboveTotal, YxAboveXy}
+use Rattle.refusals.specs.declared.Refusal.TheVariants.{Broken}
 use Rattle.refusals.specs.Refusal.{number_of}
+use Rattle.refusals.specs.Outcome.{or_later}
 use Rattle.byte_numbers.specs.Bytes.{words32}
 use Rattle.fields.specs.Encoding.{Field, IsBytes, whole_fields}
 use Rattle.molecule_encoding.specs.Format.{MoleculeParts, accepted, molecule, decoded, value_of}
 use Rattle.molecule_encoding.specs.Claims.{EncodesMolecule}
 use Rattle.molecule_encoding.proofs.Claims.{only}
 use Rattle.duplex_min_reads.specs.MinReads.{refused}
+use Rattle.duplex_gate.proofs.Gate.{rows}
 use Rattle.line_format.specs.Line.{refused_text}
 use Rattle.line_molecule.specs.Line.{decoded_text, text_of}
 use Rattle.line_claims.specs.Claims.{molecule_faults, line_faults, line_refused, Refuses, Printed, Otherwise}
@@ -26,11 +28,8 @@ use Rattle.line_claims.proofs.Places.{value, same_value}
 use Rattle.line_claims.proofs.Molecule.{own, by_thresholds, by_rows, by_record}
 
 -- The thresholds' rows, as the claim has them.
-abbrev four : Bool → Bool → Bool → Bool → Option Refusal → Option Refusal
-four a b c d rest = cond a (Some NoThresholds) (cond b (Some TooManyThresholds) (cond c (Some XyAboveTotal) (cond d (Some YxAboveXy) rest)))
-
 abbrev threshold_rows : List ℕ → Option Refusal → Option Refusal
-threshold_rows ts rest = four (eqb (length ts) 0) (ltb 3 (length ts)) (ltb 1 (length ts) && ltb (get_or ts 0 0) (get_or ts 1 0)) (ltb 2 (length ts) && ltb (get_or ts 1 0) (get_or ts 2 0)) rest
+threshold_rows ts rest = rows (eqb (length ts) 0) (ltb 3 (length ts)) (ltb 1 (length ts) && ltb (get_or ts 0 0) (get_or ts 1 0)) (ltb 2 (length ts) && ltb (get_or ts 1 0) (get_or ts 2 0)) rest
 
 thresholds_are : (ts : List ℕ) → refused ts ≡ threshold_rows ts None
 thresholds_are [] = refl
@@ -41,12 +40,7 @@ thresholds_are (a ∷ (b ∷ (c ∷ (d ∷ ts)))) =
     let l = length (a ∷ b ∷ c ∷ d ∷ ts) in
     rw (ne_eqb l 0 (λ e. omega arith), lt-ltb 3 l (omega arith))
 
--- Rows before others.
-abbrev or_else : Option Refusal → Option Refusal → Option Refusal
-or_else None rest = rest
-or_else (Some row) rest = Some row
-
-before : (a b c d : Bool) (rest : Option Refusal) → four a b c d rest ≡ or_else (four a b c d None) rest
+before : (a b c d : Bool) (rest : Option Refusal) → rows a b c d rest ≡ or_later (rows a b c d None) rest
 before true b c d rest = refl
 before false true c d rest = refl
 before false false true d rest = refl
@@ -87,17 +81,17 @@ module _ (bytes : List ℕ) (small : IsBytes bytes) where
     unfolding line_faults molecule_faults
     rows_are = rw a
 
-    row_is : line_refused bytes ≡ or_else (refused ts) others
+    row_is : line_refused bytes ≡ or_later (refused ts) others
     row_is =
         rows_are
         ∙ ap (λ (v : List ℕ). threshold_rows (words32 v) others) (sym (same_value (value_of 0x01 fs)))
         ∙ before (eqb (length ts) 0) (ltb 3 (length ts)) (ltb 1 (length ts) && ltb (get_or ts 0 0) (get_or ts 1 0)) (ltb 2 (length ts) && ltb (get_or ts 1 0) (get_or ts 2 0)) others
-        ∙ ap (λ (r : Option Refusal). or_else r others) (sym (thresholds_are ts))
+        ∙ ap (λ (r : Option Refusal). or_later r others) (sym (thresholds_are ts))
 
     by_row : (r o : Option Refusal) → refused ts ≡ r → others ≡ o → Outcome (line_refused bytes) (decoded_text (Ok m))
-    by_row (Some row) o hr ho = refused_by row (row_is ∙ ap (λ (r : Option Refusal). or_else r others) hr) (by_thresholds bytes fs m x is_molecule row hr)
-    by_row None (Some row) hr ho = refused_by row (row_is ∙ ap (λ (r : Option Refusal). or_else r others) hr ∙ ho) (by_rows bytes fs m x is_molecule hr row ho)
-    by_row None None hr ho = passed (row_is ∙ ap (λ (r : Option Refusal). or_else r others) hr ∙ ho) (by_record bytes fs m x is_molecule hr ho)
+    by_row (Some row) o hr ho = refused_by row (row_is ∙ ap (λ (r : Option Refusal). or_later r others) hr) (by_thresholds bytes fs m x is_molecule row hr)
+    by_row None (Some row) hr ho = refused_by row (row_is ∙ ap (λ (r : Option Refusal). or_later r others) hr ∙ ho) (by_rows bytes fs m x is_molecule hr row ho)
+    by_row None None hr ho = passed (row_is ∙ ap (λ (r : Option Refusal). or_later r others) hr ∙ ho) (by_record bytes fs m x is_molecule hr ho)
 
     a_molecule : Outcome (line_refused bytes) (text_of bytes)
     unfolding text_of

@@ -18,7 +18,7 @@ use molecule_strand::{EncodedAnnotation, EncodedStrand, encoded_pattern};
 use refusals::Refusal;
 
 // An annotation's value is its pattern byte and then the evidence.
-fn annotation_of<'a>(value: &'a [u8]) -> EncodedAnnotation<'a>
+fn encoded_annotation_of<'a>(value: &'a [u8]) -> EncodedAnnotation<'a>
     ensures pattern { result.pattern ≡ encoded_pattern (get_or value.now 0 0) }
     ensures evidence { result.evidence.now ≡ drop 1 value.now }
 {
@@ -37,7 +37,7 @@ fn strand_of<'a>(s: Option<StrandFields<'a>>) -> Option<EncodedStrand<'a>>
         quals: s.quals,
         depths: s.depths,
         errors: s.errors,
-        methylation: s.annotation.map(annotation_of),
+        methylation: s.annotation.map(encoded_annotation_of),
     })
 }
 

@@ -46,7 +46,7 @@ fn none_line() -> Line
 }
 
 // The line of a record, which stands at the front of the arrays.
-fn text_line(report: Report, row: RecordColumns) -> Line
+fn printed_line(report: Report, row: RecordColumns) -> Line
     ensures { HoldsOf (some_text report (columns_in row.entry)) (columns_in row.entry) result }
 {
     let positions = report.positions;
@@ -73,7 +73,7 @@ fn report_line(report: Result<Option<Report>, u8>, row: RecordColumns) -> Line
         Err(number) => return refused_line(number),
     };
     match report {
-        Some(report) => text_line(report, row),
+        Some(report) => printed_line(report, row),
         None => none_line(),
     }
 }

@@ -24,7 +24,7 @@ use Rattle.duplex_metrics.specs.Metrics.{Input, input, input_given}
 use Rattle.duplex_metrics.specs.declared.Counts.{Counts}
 use Rattle.duplex_metrics.specs.declared.MetricsInput.{MetricsInput}
 use Rattle.metrics_bits.specs.declared.MetricsBits.{MetricsBits}
-use Rattle.molecule_counts.specs.Counts.{Arrays, DecodedTo, zero_counts, arrays_in, second_in}
+use Rattle.molecule_counts.specs.Counts.{CountedArrays, DecodedTo, zero_counts, arrays_in, second_in}
 use Rattle.line_format.specs.declared.Kind.{Kind}
 use Rattle.line_report.specs.Report.{input_in, front_input, gated_report, judged, record_report}
 use Rattle.line_report.specs.Within.{first_read, second_read}
@@ -85,7 +85,7 @@ none_read n = sym (take-nil n)
 
 -- The same as the code has it: what of the strands was read, as many of each of the others, and what of the record.
 pub own_read :
-    (kind : Kind) (n : ℕ) (a : Counts ℕ) (b : Option (Counts ℕ)) (bases errors ts : List ℕ) (x : MetricsInput ℕ ℕ) (own : Counts ℕ) (given : Option (Counts ℕ)) (a_read b_read : Arrays) {r : Result Report Refusal}
+    (kind : Kind) (n : ℕ) (a : Counts ℕ) (b : Option (Counts ℕ)) (bases errors ts : List ℕ) (x : MetricsInput ℕ ℕ) (own : Counts ℕ) (given : Option (Counts ℕ)) (a_read b_read : CountedArrays) {r : Result Report Refusal}
     → DecodedTo (Some a) zero_counts a_read
     → DecodedTo b zero_counts b_read
     → arrays_in own ≡ first_read n a a_read
@@ -94,13 +94,13 @@ pub own_read :
     → r ≡ judged kind n (input_given x) ts
     → r ≡ record_report kind n (input_in a b bases errors) ts
 own_read kind n a None bases errors ts x own None a_read b_read ra rb f g is e =
-    from_read kind n false (words16 a.depths.now) (words16 a.errors.now) [] [] bases errors ts (ap (λ (s : Arrays). s.depths) f ∙ first_is a.depths.now ra.0 n) (ap (λ (s : Arrays). s.errors) f ∙ first_is a.errors.now ra.1 n) (none_read n) (none_read n)
+    from_read kind n false (words16 a.depths.now) (words16 a.errors.now) [] [] bases errors ts (ap (λ (s : CountedArrays). s.depths) f ∙ first_is a.depths.now ra.0 n) (ap (λ (s : CountedArrays). s.errors) f ∙ first_is a.errors.now ra.1 n) (none_read n) (none_read n)
     (e ∙ rw (is.0, is.1, is.2, is.3) refl)
 own_read kind n a None bases errors ts x own (Some s) a_read b_read ra rb f g is e = absurd cc
 own_read kind n a (Some b) bases errors ts x own None a_read b_read ra rb f g is e = absurd cc
 own_read kind n a (Some b) bases errors ts x own (Some s) a_read b_read ra rb f g is e =
     let both : arrays_in s ≡ first_read n b b_read = cc in
     from_read kind n true (words16 a.depths.now) (words16 a.errors.now) (words16 b.depths.now) (words16 b.errors.now) bases errors ts
-    (ap (λ (s : Arrays). s.depths) f ∙ first_is a.depths.now ra.0 n) (ap (λ (s : Arrays). s.errors) f ∙ first_is a.errors.now ra.1 n)
-    (ap (λ (s : Arrays). s.depths) both ∙ first_is b.depths.now rb.0 n) (ap (λ (s : Arrays). s.errors) both ∙ first_is b.errors.now rb.1 n)
+    (ap (λ (s : CountedArrays). s.depths) f ∙ first_is a.depths.now ra.0 n) (ap (λ (s : CountedArrays). s.errors) f ∙ first_is a.errors.now ra.1 n)
+    (ap (λ (s : CountedArrays). s.depths) both ∙ first_is b.depths.now rb.0 n) (ap (λ (s : CountedArrays). s.errors) both ∙ first_is b.errors.now rb.1 n)
     (e ∙ rw (is.0, is.1, is.2, is.3) refl)

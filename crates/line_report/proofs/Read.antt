@@ -6,16 +6,14 @@ use Prim.Native.Nat.{ℕ, ◌/◌}
 use native.Mathlib.Omega.{arith}
 use borrow.Author.Tests.{ltb-true, ltb-false}
 use lib.Dec.{ltb}
-use lib.ListN.{length, take, replicate, length-take, length-replicate}
+use lib.ListN.{length, take, length-take, length-replicate}
 use lib.Seq.{take_all}
 use Rattle.lists.specs.Output.{put}
 use Rattle.lists.proofs.Output.{put_whole}
+use Rattle.refusals.specs.Outcome.{zeros}
 use Rattle.byte_numbers.specs.Bytes.{number_of, words16}
 use Rattle.byte_numbers.proofs.Bytes.{length_numbers}
 use Rattle.byte_numbers.proofs.Groups.{read_front}
-
-abbrev pub zeros : List ℕ
-zeros = replicate 1024 0
 
 module _ (bytes : List ℕ) {now : List ℕ} (e : now ≡ put (take (length zeros) (words16 bytes)) zeros) where
   all_read : take (length bytes / 2) now ≡ take 1024 (words16 bytes)

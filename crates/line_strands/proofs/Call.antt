@@ -9,7 +9,7 @@ use Rattle.molecule_strand.specs.Strand.{StrandBytes}
 use Rattle.duplex_outputs.specs.Outputs.{RecordArrays, record_of}
 use Rattle.std.proofs.Common.{Option, Result}
 use Rattle.refusals.specs.declared.Refusal.{Refusal}
-use Rattle.refusals.specs.Outcome.{by_number}
+use Rattle.refusals.specs.Outcome.{by_number, zeros}
 use Rattle.duplex_kind.specs.declared.DuplexConsensus.{DuplexConsensus}
 use Rattle.molecule_consensus.specs.Bytes.{seen, BytesAs}
 use Rattle.molecule_consensus.proofs.Ample.{Ample, zeros_ample, inputs_alone}
@@ -17,7 +17,7 @@ use Rattle.line_format.specs.Line.{Fits, columns}
 use Rattle.line_report.specs.Report.{strands}
 use Rattle.line_record.specs.Line.{answer_text, Within, Holds, HoldsOf}
 use Rattle.line_record.specs.declared.Line.{Line}
-use Rattle.line_strands.specs.Strands.{zeros, counts_of, strands_text}
+use Rattle.line_strands.specs.Strands.{counts_of, strands_text}
 
 -- The buffers as the call begins.
 abbrev pub buffers : RecordArrays

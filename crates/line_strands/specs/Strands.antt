@@ -1,8 +1,8 @@
 -- The text for two strands given as bytes and a list of reads that is a run, document 01's line program: what the library's call on
 -- them answers, and leaves in output buffers of 1,024 places that start as zeros.
-use Rattle.std.specs.Prelude.{ℕ, Bool, Option, Result, List, replicate}
+use Rattle.std.specs.Prelude.{ℕ, Bool, Option, Result, List}
 use Rattle.refusals.specs.declared.Refusal.{Refusal}
-use Rattle.refusals.specs.Outcome.{answer, after, by_number}
+use Rattle.refusals.specs.Outcome.{answer, after, by_number, zeros}
 use Rattle.byte_numbers.specs.Bytes.{words16}
 use Rattle.molecule_strand.specs.Strand.{StrandBytes, strand_of}
 use Rattle.duplex_outputs.specs.Outputs.{RecordArrays}
@@ -12,9 +12,6 @@ use Rattle.molecule_consensus.specs.Bytes.{seen, inputs_refused, bytes_record}
 use Rattle.line_format.specs.Line.{columns}
 use Rattle.line_report.specs.Report.{Counts, counts, strands}
 use Rattle.line_record.specs.Line.{answer_text}
-
-abbrev pub zeros : List ℕ
-zeros = replicate 1024 0
 
 -- The refusal of the call, if any. The outputs are long enough for every record.
 abbrev pub refusal_of : StrandBytes → StrandBytes → Bool → List ℕ → Option Refusal

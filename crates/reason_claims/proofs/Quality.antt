@@ -2,7 +2,7 @@
 --     shows_n         a position shows N exactly where its answer is one of the seven reasons
 -- Assumes nothing.
 use mathlib.Core.Path.{◌≡◌, refl, sym, ap, ◌∙◌}
-use mathlib.Core.Bool.{Bool, true, false, cond, not, ◌&&◌, ◌||◌, true≢false}
+use mathlib.Core.Bool.{Bool, true, false, cond, not, ◌&&◌, ◌||◌, true≢false, or-true, or-false}
 use Prim.Native.Nat.{ℕ, ◌+◌, min, max}
 use native.Mathlib.Omega.{arith}
 use lib.Dec.{eqb, leb, ltb}
@@ -78,10 +78,6 @@ n_first true false other = refl
 n_first false true other = refl
 n_first false false other = refl
 
-or_false : (t : Bool) → (t || false) ≡ t
-or_false true = refl
-or_false false = refl
-
 -- Where the strands disagree nothing is added and nothing counts alone.
 disagreeing :
     (c c' same x x' l m s : Bool)
@@ -95,9 +91,9 @@ disagreeing false false false x x' l m s h = refl
 -- Where they do not, the sum counts unless a quality counts alone.
 chosen : (x y l m s : Bool) → (x ≡ true → y ≡ false) → ((not (x || y) && s) || ((x && l) || (y && m))) ≡ cond x l (cond y m s)
 chosen true true l m s apart = absurd (true≢false (apart refl))
-chosen true false l m s apart = or_false l
+chosen true false l m s apart = or-false l
 chosen false true l m s apart = refl
-chosen false false l m s apart = or_false s
+chosen false false l m s apart = or-false s
 
 agreeing :
     (c same x y l m s : Bool)
@@ -141,7 +137,7 @@ module _ (a b : Shown) where
           ≡ leb (weighed d (others_alone a b) (others_alone b a) a.qual b.qual) 2
       go true e =
           ap (λ (t : Bool). eqb a.qual b.qual || ((eqb (difference a.qual b.qual) 1 || eqb (difference a.qual b.qual) 2) || t)) (disagreeing (carries a b) (carries b a) (eqb a.base b.base) (marked a) (marked b) _ _ _ e)
-          ∙ ap (λ (t : Bool). eqb a.qual b.qual || t) (or_false (eqb (difference a.qual b.qual) 1 || eqb (difference a.qual b.qual) 2))
+          ∙ ap (λ (t : Bool). eqb a.qual b.qual || t) (or-false (eqb (difference a.qual b.qual) 1 || eqb (difference a.qual b.qual) 2))
           ∙ near a.qual b.qual
       go false e =
           let apart = alone_once (carries a b) (carries b a) (marked a) (marked b) (exclusive a.annotation b.annotation a.base b.base) in
@@ -179,10 +175,6 @@ shows_masked a b raw position m =
     ∙ ap (λ (t : Bool). eqb a letter_n || (eqb b letter_n || t)) (held_low raw)
 
 -- Without a call.
-or_true : (t : Bool) → (t || true) ≡ true
-or_true true = refl
-or_true false = refl
-
 plain : (a qa b qb : ℕ) → Masks a b (cond (not (eqb a b)) (difference qa qb) (qa + qb)) (uncalled a qa b qb)
 unfolding uncalled agreed disagreed
 plain a qa b qb = go (eqb a b) (ltb qa qb)
@@ -191,7 +183,7 @@ plain a qa b qb = go (eqb a b) (ltb qa qb)
     of_a e = rw (eq-eqb a letter_n e)
 
     of_b : b ≡ letter_n → (eqb a letter_n || eqb b letter_n) ≡ true
-    of_b e = rw (eq-eqb b letter_n e) (or_true (eqb a letter_n))
+    of_b e = rw (eq-eqb b letter_n e) (or-true (eqb a letter_n))
 
     go :
         (t u : Bool)

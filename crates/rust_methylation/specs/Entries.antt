@@ -9,7 +9,7 @@ use Rattle.methylation.specs.declared.MethylationMode.{MethylationMode}
 use Rattle.methylation_restore.specs.Restore.{restored, restore_refused, strand_bases, strand_refused}
 use Rattle.mm_ml.specs.Tags.{Annotated, TaggedAs}
 use Rattle.mm_ml.specs.declared.TagLengths.{TagLengths}
-use Rattle.duplex_texts.specs.Texts.{Strand, TextArrays}
+use Rattle.duplex_texts.specs.Texts.{StrandAnnotation, TextArrays}
 use Rattle.duplex_texts.specs.declared.TextLengths.{TextLengths}
 use Rattle.duplex_tags.specs.Tags.{CountArrays}
 use Rattle.duplex_tags.specs.Outputs.{DuplexTaggedAs}
@@ -67,5 +67,5 @@ duplex_arrays texts counts = record { texts = texts; counts = counts }
 abbrev pub TagsAs : MethylationMode → Annotated → TagArrays → TagArrays → Result (Option TagLengths) Refusal → Type 0
 TagsAs mode s before now = TaggedAs mode s before.mm before.ml now.mm now.ml
 
-abbrev pub DuplexTagsAs : MethylationMode → List ℕ → Strand → Strand → DuplexArrays → DuplexArrays → Result TextLengths Refusal → Type 0
+abbrev pub DuplexTagsAs : MethylationMode → List ℕ → StrandAnnotation → StrandAnnotation → DuplexArrays → DuplexArrays → Result TextLengths Refusal → Type 0
 DuplexTagsAs mode bases a b before now = DuplexTaggedAs mode bases a b before.texts before.counts now.texts now.counts

@@ -8,7 +8,7 @@ use Rattle.std.proofs.Common.{None}
 use Rattle.std.proofs.lemmas.Result.{err_from_is_err_and}
 use Rattle.refusals.proofs.Outcome.{refused_by, passed_by}
 use Rattle.duplex_texts.specs.Lent.{texts_out}
-use Rattle.duplex_texts.specs.Texts.{Strand, TextArrays, strand_in}
+use Rattle.duplex_texts.specs.Texts.{StrandAnnotation, TextArrays, strand_in}
 use Rattle.duplex_texts.specs.Outputs.{strand_lengths}
 use Rattle.duplex_texts.specs.Parts.{AsLong}
 use Rattle.duplex_texts.proofs.Refused.{as_long}
@@ -35,10 +35,10 @@ module _ (c : In_ok-counts_refusal) where
   abbrev bases : List ℕ
   bases = c.args.bases.now
 
-  abbrev a : Strand
+  abbrev a : StrandAnnotation
   a = strand_in c.args.a
 
-  abbrev b : Strand
+  abbrev b : StrandAnnotation
   b = strand_in c.args.b
 
   abbrev texts : TextArrays

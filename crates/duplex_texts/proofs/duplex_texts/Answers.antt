@@ -8,12 +8,12 @@ use lib.ListN.{length}
 use Rattle.std.proofs.Common.{None}
 use Rattle.std.proofs.lemmas.Result.{err_from_is_err_and}
 use Rattle.refusals.specs.Refusal.{refused}
-use Rattle.refusals.proofs.Outcome.{refused_by, passed_by}
+use Rattle.refusals.proofs.Outcome.{refused_by, passed_by, is_met, not_met}
 use Rattle.duplex_texts.specs.Lent.{texts_out}
-use Rattle.duplex_texts.specs.Texts.{Strand, TextArrays, strand_in, duplex_seq}
+use Rattle.duplex_texts.specs.Texts.{StrandAnnotation, TextArrays, strand_in, duplex_seq}
 use Rattle.duplex_texts.specs.Outputs.{RoomTexts, given_of, text_lengths, texts_too_short}
 use Rattle.duplex_texts.specs.Parts.{AsLong, needed_for}
-use Rattle.duplex_texts.proofs.Refused.{not_met, is_met, as_long, refused_given, refused_room, all_written, enough_room}
+use Rattle.duplex_texts.proofs.Refused.{as_long, refused_given, refused_room, all_written, enough_room}
 use Rattle.duplex_texts.proofs.Made.{made, long_against, few_bytes, needed, all_put}
 use Rattle.duplex_texts.proofs.duplex_texts.Goals as goal
 use Rattle.duplex_texts.proofs.duplex_texts.Goals.{In_ok-given_refusal, After-front-restored, In_ok-refuse}
@@ -29,10 +29,10 @@ module _ (c : In_ok-given_refusal) where
   abbrev bases : List ℕ
   bases = c.args.bases.now
 
-  abbrev a : Strand
+  abbrev a : StrandAnnotation
   a = strand_in c.args.a
 
-  abbrev b : Strand
+  abbrev b : StrandAnnotation
   b = strand_in c.args.b
 
   passed : refused (given_of bases a b) ≡ None
@@ -53,7 +53,7 @@ module _ (c : In_ok-refuse) where
   outputs = texts_out c.args.out.now
 
   long_enough : texts_too_short c.needed_for-needed.result (text_lengths outputs) ≡ false
-  long_enough = sym (rw c.lengths.ensures at c.is_too_short.ensures) ∙ not_met _ (sym c.refuse.ensures ∙ c.in_ok-refuse.was)
+  long_enough = sym (rw c.lengths.ensures at c.is_too_short.ensures) ∙ not_met _ _ (sym c.refuse.ensures ∙ c.in_ok-refuse.was)
 
   room : RoomTexts (needed_for (length c.args.bases.now) c.strand_texts-of_a.result c.strand_texts-of_b.result) (text_lengths outputs)
   room = rw c.needed_for-needed.ensures at (enough_room _ (text_lengths outputs) long_enough)
@@ -88,8 +88,8 @@ returns-in_err-refuse-clause-texts c =
     let of_b = rw (whole here.After-front-restored) at c.strand_texts-of_b.ensures in
     let lengths = c.needed_for-needed.ensures ∙ needed _ _ _ _ of_a of_b in
     let p = err_from_is_err_and c.from_residual-in_err-refuse.result c.from_residual-in_err-refuse.ensures.1 in
-    let (short, row) = is_met _ (sym c.refuse.ensures ∙ c.in_err-refuse.was) in
-    rw (p.1, p.2, row) (refused_room _ _ _ _ (texts_out c.args.out.now) (passed here.In_ok-given_refusal) lengths (sym (rw c.lengths.ensures at c.is_too_short.ensures) ∙ short))
+    let (short, row) = is_met _ _ (sym c.refuse.ensures ∙ c.in_err-refuse.was) in
+    rw (p.1, p.2, sym row) (refused_room _ _ _ _ (texts_out c.args.out.now) (passed here.In_ok-given_refusal) lengths (sym (rw c.lengths.ensures at c.is_too_short.ensures) ∙ short))
 
 pub returns-clause-texts : goal.returns-clause-texts
 returns-clause-texts c =
