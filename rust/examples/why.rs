@@ -1,6 +1,6 @@
-//! Why positions of a molecule show N. Reads an encoded molecule (docs/MOLECULE.md) from standard input; prints for the position that is
-//! named, counted from 0, or without one for each that shows N, a line with the position, what strand A, strand B and the record show there,
-//! and a sentence. `bin/why` builds and runs it.
+//! Why positions of a molecule show N. Reads an encoded molecule (README.md has its layout) from standard input; prints for the position
+//! that is named, counted from 0, or without one for each that shows N, a line with the position, what strand A, strand B and the record
+//! show there, and a sentence. `bin/why` builds and runs it.
 //!
 //! It is not proved, only thin: it splits the molecule into its fields, and the library, which is proved, makes the record of them and
 //! tells the reasons. Thresholds are not tested, since no base depends on them.

@@ -1,7 +1,10 @@
 //! The calls on numbers given as bytes, low byte first, which C programs that keep molecules encoded use. Lengths are in bytes.
-use crate::duplex_caller::Record;
+use crate::MAX_POSITIONS;
+use crate::duplex_caller::{Kind, Record, cut};
 use crate::entries;
-use crate::methylation::{ConversionPattern, DuplexTagLengths, MethylationMode};
+use crate::methylation::{
+    ConversionPattern, CountsOut, DuplexMethylationTags, DuplexTagLengths, DuplexTagsOut, MethylationMode, TagBuffers,
+};
 use crate::reason::NoCallReason;
 use crate::refusal::{Refusal, told};
 
@@ -48,35 +51,28 @@ pub struct RecordBytesOut<'a> {
     pub second_evidence: &'a mut [u8],
 }
 
-/// Where the counts of a strand go, or those of both: numbers of 16 bits.
-#[derive(Debug, Default)]
-pub struct CountBytesOut<'a> {
-    /// Unconverted counts.
-    pub unconverted: &'a mut [u8],
-    /// Converted counts.
-    pub converted: &'a mut [u8],
+/// A record.
+#[derive(Clone, Debug, PartialEq, Eq)]
+pub struct RecordBytes {
+    /// Which strands it is of.
+    pub kind: Kind,
+    /// A byte each.
+    pub bases: Vec<u8>,
+    /// A byte each.
+    pub quals: Vec<u8>,
+    /// Numbers of 16 bits.
+    pub errors: Vec<u8>,
+    /// The evidence of the record's first strand, where that is annotated.
+    pub first_evidence: Option<Vec<u8>>,
+    /// The evidence of its second strand, where there is one and it is annotated.
+    pub second_evidence: Option<Vec<u8>>,
 }
 
-/// Where a record's sequence and tags go. Nothing goes to the outputs of an annotation that is missing.
-#[derive(Debug, Default)]
-pub struct TagBytesOut<'a> {
-    /// The sequence.
-    pub seq: &'a mut [u8],
-    /// The first strand's MM text: at most 5 bytes and 5 for each position.
-    pub a_mm: &'a mut [u8],
-    /// The second strand's.
-    pub b_mm: &'a mut [u8],
-    /// The combined MM text: at most twice that.
-    pub mm: &'a mut [u8],
-    /// The combined ML array: at most 2 for each position.
-    pub ml: &'a mut [u8],
-    /// The first strand's counts.
-    pub a: CountBytesOut<'a>,
-    /// The second strand's counts.
-    pub b: CountBytesOut<'a>,
-    /// The counts of both, added.
-    pub both: CountBytesOut<'a>,
-}
+/// Where the counts of a strand go, or those of both: numbers of 16 bits.
+pub type CountBytesOut<'a> = CountsOut<'a, u8>;
+
+/// Where a record's sequence and tags go, its counts as bytes.
+pub type TagBytesOut<'a> = DuplexTagsOut<'a, u8>;
 
 /// The metrics of a record, of bytes.
 ///
@@ -136,8 +132,66 @@ pub fn metrics_into(
     told(refused, ())
 }
 
-/// Writes the duplex record of strands that are given as bytes; `None` where no strand is covered. The reads are a run: of each the
+/// The duplex record of strands that are given as bytes; `None` where no strand is covered. The reads are a run: of each the
 /// byte 0x30, the number of bytes that follow, the flags, two numbers of 16 bits, and its bases.
+///
+/// # Errors
+///
+/// [`Refusal::Broken`], [`Refusal::TooLong`], [`Refusal::Ragged`], [`Refusal::TooManyReads`].
+///
+/// ```
+/// use gedrashiw::Kind;
+/// use gedrashiw::bytes::{CountBytes, StrandBytes, duplex_consensus};
+/// use gedrashiw::methylation::ConversionPattern;
+///
+/// let counts = CountBytes { depths: &[1, 0], errors: &[0, 0] };
+/// let evidence = [1, 3, 0, 0, 0, 4, 0, 0, 0];
+/// let a = StrandBytes { bases: b"T", quals: &[30], counts, annotation: Some((ConversionPattern::CToT, &evidence)) };
+/// let b = StrandBytes { bases: b"C", quals: &[40], annotation: Some((ConversionPattern::GToA, &evidence)), ..a };
+/// let record = duplex_consensus(Some(&a), Some(&b), None)?.expect("both are covered");
+/// assert_eq!((record.kind, record.bases, record.quals, record.errors), (Kind::Both, b"C".to_vec(), vec![70], vec![0, 0]));
+/// assert_eq!((record.first_evidence, record.second_evidence), (Some(evidence.to_vec()), Some(vec![0; 9])));
+/// # Ok::<(), gedrashiw::Refusal>(())
+/// ```
+pub fn duplex_consensus(
+    a: Option<&StrandBytes>,
+    b: Option<&StrandBytes>,
+    reads: Option<&[u8]>,
+) -> Result<Option<RecordBytes>, Refusal> {
+    let given = || [a, b].into_iter().flatten();
+    let places = given().map(|s| s.bases.len()).max().unwrap_or(0).min(MAX_POSITIONS);
+    let evidence = if given().any(|s| s.annotation.is_some()) { EVIDENCE_BYTES * places } else { 0 };
+    let (mut bases, mut quals, mut errors) = (vec![0; places], vec![0; places], vec![0; 2 * places]);
+    let (mut first, mut second) = (vec![0; evidence], vec![0; evidence]);
+    let mut out = RecordBytesOut {
+        bases: &mut bases,
+        quals: &mut quals,
+        errors: &mut errors,
+        first_evidence: &mut first,
+        second_evidence: &mut second,
+    };
+    let Some(Record { kind, positions }) = duplex_consensus_into(a, b, reads, &mut out)? else {
+        return Ok(None);
+    };
+    let kept = |strand: Option<&StrandBytes>, evidence| {
+        strand.and_then(|s| s.annotation).map(|_| cut(evidence, EVIDENCE_BYTES * positions))
+    };
+    let (ab, ba) = match kind {
+        Kind::Ab => (a, None),
+        Kind::Ba => (b, None),
+        Kind::Both => (a, b),
+    };
+    Ok(Some(RecordBytes {
+        kind,
+        bases: cut(bases, positions),
+        quals: cut(quals, positions),
+        errors: cut(errors, 2 * positions),
+        first_evidence: kept(ab, first),
+        second_evidence: kept(ba, second),
+    }))
+}
+
+/// Writes [`duplex_consensus`].
 ///
 /// # Errors
 ///
@@ -238,8 +292,33 @@ pub fn no_call_reason(a: Option<&StrandBytes>, b: Option<&StrandBytes>, position
     ))
 }
 
-/// Writes the sequence and the methylation tags of a record, its evidence given as bytes, nine a position; answers how much of each output
-/// is written, the counts in positions.
+/// The sequence and the methylation tags of a record, its evidence given as bytes, nine a position, and its counts as bytes.
+///
+/// # Errors
+///
+/// [`Refusal::Broken`], [`Refusal::TooLong`], [`Refusal::Ragged`].
+///
+/// ```
+/// use gedrashiw::MethylationMode;
+/// use gedrashiw::bytes::methylation_tags;
+/// use gedrashiw::methylation::ConversionPattern;
+///
+/// let evidence = [1, 3, 0, 0, 0, 1, 0, 0, 0];
+/// let tags = methylation_tags(b"T", Some((ConversionPattern::CToT, &evidence)), None, MethylationMode::EmSeq)?;
+/// assert_eq!((tags.seq, tags.mm_ml), (b"C".to_vec(), Some(("C+m?,0;".to_string(), vec![192]))));
+/// assert_eq!((&tags.strands[0].unconverted, tags.unconverted, tags.converted), (&vec![3, 0], vec![3, 0], vec![1, 0]));
+/// # Ok::<(), gedrashiw::Refusal>(())
+/// ```
+pub fn methylation_tags(
+    bases: &[u8],
+    a: Option<(ConversionPattern, &[u8])>,
+    b: Option<(ConversionPattern, &[u8])>,
+    methylation_mode: MethylationMode,
+) -> Result<DuplexMethylationTags<u8>, Refusal> {
+    TagBuffers::of(bases, 2).written(a.is_some(), b.is_some(), |out| methylation_tags_into(bases, a, b, methylation_mode, out))
+}
+
+/// Writes [`methylation_tags`]; answers how much of each output is written, the counts in positions.
 ///
 /// # Errors
 ///

@@ -18,6 +18,7 @@ pub const FGBIO_SHORT_DEPTH_MAX: u16 = i16::MAX.unsigned_abs();
 /// assert_eq!(calculate_error_rate(&[0], &[3])?, 0.0);
 /// # Ok::<(), gedrashiw::Refusal>(())
 /// ```
+#[inline]
 pub fn calculate_error_rate(depths: &[u16], errors: &[u16]) -> Result<f32, Refusal> {
     let rate = entries::gedrashiw_calculate_error_rate(depths, errors);
     told(rate.refused, f32::from_bits(rate.number))
@@ -39,6 +40,7 @@ pub fn rate_bits(errors: u32, depth: u32) -> u32 {
 /// assert_eq!(gedrashiw::caller::clamp_per_base_to_fgbio_short(40_000), 32_767);
 /// ```
 #[must_use]
+#[inline]
 pub fn clamp_per_base_to_fgbio_short(depth: u16) -> i32 {
     entries::gedrashiw_clamp_per_base_to_fgbio_short(depth) as i32
 }
@@ -51,6 +53,7 @@ pub fn clamp_per_base_to_fgbio_short(depth: u16) -> i32 {
 /// assert_eq!([-2, 7, 40_000].map(clamp_combined_error_to_fgbio_short), [0, 7, 32_767]);
 /// ```
 #[must_use]
+#[inline]
 pub fn clamp_combined_error_to_fgbio_short(error_sum: i32) -> u16 {
     entries::gedrashiw_clamp_combined_error_to_fgbio_short(error_sum)
 }

@@ -49,6 +49,14 @@ impl MiPart {
     pub const ABSENT: MiPart = MiPart { present: 0, offset: 0, length: 0 };
 
     /// So many bytes from an offset on.
+    ///
+    /// ```
+    /// use gedrashiw::{DuplexConsensusCaller, MiPart};
+    ///
+    /// let partition = DuplexConsensusCaller::partition_records_by_strand(&[MiPart::new(4, 4)], b"12/A34/B")?;
+    /// assert_eq!((partition.base_mi, partition.b_records), (Some(&b"34"[..]), vec![0]));
+    /// # Ok::<(), gedrashiw::Refusal>(())
+    /// ```
     #[must_use]
     pub const fn new(offset: usize, length: usize) -> MiPart {
         MiPart { present: 1, offset, length }
@@ -212,6 +220,7 @@ impl DuplexConsensusCaller {
     /// assert_eq!(DuplexConsensusCaller::validate_min_reads(&[3, 1]), Ok(MinReads { total: 3, xy: 1, yx: 1 }));
     /// assert_eq!(DuplexConsensusCaller::validate_min_reads(&[]), Err(Refusal::NoThresholds));
     /// ```
+    #[inline]
     pub fn validate_min_reads(min_reads: &[u32]) -> Result<MinReads, Refusal> {
         let t = entries::gedrashiw_validate_min_reads(min_reads);
         told(t.refused, MinReads { total: t.total, xy: t.xy, yx: t.yx })
@@ -226,6 +235,7 @@ impl DuplexConsensusCaller {
     /// ```
     /// assert_eq!(gedrashiw::DuplexConsensusCaller::min_yx_reads_for(&[3, 1]), Ok(1));
     /// ```
+    #[inline]
     pub fn min_yx_reads_for(min_reads: &[u32]) -> Result<u32, Refusal> {
         let yx = entries::gedrashiw_min_yx_reads_for(min_reads);
         told(yx.refused, yx.number)
@@ -240,6 +250,7 @@ impl DuplexConsensusCaller {
     /// ```
     /// assert_eq!(gedrashiw::DuplexConsensusCaller::allows_single_strand_consensus(&[1, 1, 0]), Ok(true));
     /// ```
+    #[inline]
     pub fn allows_single_strand_consensus(min_reads: &[u32]) -> Result<bool, Refusal> {
         let allowed = entries::gedrashiw_allows_single_strand_consensus(min_reads);
         told(allowed.refused, allowed.number != 0)
@@ -254,6 +265,7 @@ impl DuplexConsensusCaller {
     /// assert_eq!(DuplexConsensusCaller::extract_strand_from_mi_bytes(b"A"), None);
     /// ```
     #[must_use]
+    #[inline]
     pub fn extract_strand_from_mi_bytes(mi_bytes: &[u8]) -> Option<char> {
         match entries::gedrashiw_extract_strand_from_mi_bytes(mi_bytes) {
             0 => None,
@@ -319,6 +331,7 @@ impl DuplexConsensusCaller {
     /// assert!(gedrashiw::DuplexConsensusCaller::is_paired(0x1));
     /// ```
     #[must_use]
+    #[inline]
     pub fn is_paired(flags: u16) -> bool {
         entries::gedrashiw_is_paired(flags) != 0
     }
@@ -330,6 +343,7 @@ impl DuplexConsensusCaller {
     /// assert!(!gedrashiw::DuplexConsensusCaller::is_paired_r1(0x40));
     /// ```
     #[must_use]
+    #[inline]
     pub fn is_paired_r1(flags: u16) -> bool {
         entries::gedrashiw_is_paired_r1(flags) != 0
     }
@@ -340,6 +354,7 @@ impl DuplexConsensusCaller {
     /// assert!(gedrashiw::DuplexConsensusCaller::is_paired_r2(0x81));
     /// ```
     #[must_use]
+    #[inline]
     pub fn is_paired_r2(flags: u16) -> bool {
         entries::gedrashiw_is_paired_r2(flags) != 0
     }
@@ -352,6 +367,7 @@ impl DuplexConsensusCaller {
     /// assert_eq!([ReadType::R1, ReadType::R2, ReadType::Fragment].map(DuplexConsensusCaller::written_flags), [77, 141, 4]);
     /// ```
     #[must_use]
+    #[inline]
     pub fn written_flags(read_type: ReadType) -> u16 {
         entries::gedrashiw_written_flags(read_type as u8).number as u16
     }
@@ -368,6 +384,7 @@ impl DuplexConsensusCaller {
     /// assert_eq!(DuplexConsensusCaller::has_minimum_number_of_reads(&[77, 77, 141], &[77], &[3, 2, 1]), Ok(true));
     /// assert_eq!(DuplexConsensusCaller::has_minimum_number_of_reads(&[77], &[77], &[3]), Ok(false));
     /// ```
+    #[inline]
     pub fn has_minimum_number_of_reads(a_reads: &[u16], b_reads: &[u16], min_reads: &[u32]) -> Result<bool, Refusal> {
         let gate = entries::gedrashiw_has_minimum_number_of_reads(a_reads, b_reads, min_reads);
         told(gate.refused, gate.number != 0)
@@ -388,6 +405,7 @@ impl DuplexConsensusCaller {
     /// assert!(!DuplexConsensusCaller::duplex_consensus_has_minimum_reads(&record, &[5, 5, 1])?);
     /// # Ok::<(), gedrashiw::Refusal>(())
     /// ```
+    #[inline]
     pub fn duplex_consensus_has_minimum_reads(consensus: &DuplexConsensusRead, min_reads: &[u32]) -> Result<bool, Refusal> {
         let (ab, ba) = consensus.depths();
         depths_have_minimum_reads(consensus.len(), ab, ba, min_reads)
@@ -405,6 +423,7 @@ impl DuplexConsensusCaller {
     /// assert_eq!(DuplexConsensusCaller::are_all_same_strand(&[16, 83, 147]), Ok(true));
     /// assert_eq!(DuplexConsensusCaller::are_all_same_strand(&[16, 77]), Ok(false));
     /// ```
+    #[inline]
     pub fn are_all_same_strand(reads: &[u16]) -> Result<bool, Refusal> {
         let same = entries::gedrashiw_are_all_same_strand(reads);
         told(same.refused, same.number != 0)
@@ -417,6 +436,7 @@ impl DuplexConsensusCaller {
     /// assert!(!gedrashiw::DuplexConsensusCaller::is_error(b'A', b'N'));
     /// ```
     #[must_use]
+    #[inline]
     pub fn is_error(source_base: u8, consensus_base: u8) -> bool {
         entries::gedrashiw_is_error(source_base, consensus_base) != 0
     }
@@ -852,7 +872,8 @@ impl<'a> GivenStrand<'a> {
     }
 }
 
-fn cut<T>(mut numbers: Vec<T>, positions: usize) -> Vec<T> {
+/// The first so many.
+pub(crate) fn cut<T>(mut numbers: Vec<T>, positions: usize) -> Vec<T> {
     numbers.truncate(positions);
     numbers
 }
@@ -909,12 +930,29 @@ impl Buffers {
 
 impl DuplexConsensusRead<'_> {
     /// How many positions it has.
+    ///
+    /// ```
+    /// # use gedrashiw::{DuplexConsensusCaller, VanillaConsensusRead};
+    /// let a = VanillaConsensusRead::new(b"ACG", &[30; 3], &[1; 3], &[0; 3]);
+    /// let b = VanillaConsensusRead::new(b"AC", &[30; 2], &[1; 2], &[0; 2]);
+    /// let record = DuplexConsensusCaller::duplex_consensus(Some(&a), Some(&b), None)?.expect("both are covered");
+    /// assert_eq!(record.len(), 2);
+    /// # Ok::<(), gedrashiw::Refusal>(())
+    /// ```
     #[must_use]
     pub fn len(&self) -> usize {
         self.bases.len()
     }
 
-    /// Whether it has none.
+    /// Whether it has none, as no record that a call has made.
+    ///
+    /// ```
+    /// # use gedrashiw::{DuplexConsensusCaller, VanillaConsensusRead};
+    /// let a = VanillaConsensusRead::new(b"A", &[30], &[1], &[0]);
+    /// let record = DuplexConsensusCaller::duplex_consensus(Some(&a), None, None)?.expect("it is covered");
+    /// assert!(!record.is_empty());
+    /// # Ok::<(), gedrashiw::Refusal>(())
+    /// ```
     #[must_use]
     pub fn is_empty(&self) -> bool {
         self.bases.is_empty()
@@ -956,6 +994,7 @@ impl DuplexConsensusRead<'_> {
     /// assert_eq!(record.depth_range()?, (2, 10));
     /// # Ok::<(), gedrashiw::Refusal>(())
     /// ```
+    #[inline]
     pub fn depth_range(&self) -> Result<(u16, u16), Refusal> {
         let (ab, ba) = self.depths();
         depth_range(self.len(), ab, ba)
@@ -997,6 +1036,7 @@ impl DuplexConsensusRead<'_> {
 /// assert_eq!(depths_have_minimum_reads(1, &[4, 9], &[1], &[5, 4, 1]), Ok(true));
 /// assert_eq!(depths_have_minimum_reads(1, &[4, 9], &[1], &[6]), Ok(false));
 /// ```
+#[inline]
 pub fn depths_have_minimum_reads(
     positions: usize,
     ab_depths: &[u16],
@@ -1019,6 +1059,7 @@ pub fn depths_have_minimum_reads(
 /// assert_eq!(gedrashiw::duplex_caller::combined_depths_into(2, &[4, 5], &[1], &mut out), Ok(2));
 /// assert_eq!(out, [5, 5, 9]);
 /// ```
+#[inline]
 pub fn combined_depths_into(positions: usize, ab: &[u16], ba: &[u16], out: &mut [u16]) -> Result<usize, Refusal> {
     let depths = entries::gedrashiw_combined_depths(positions, ab, ba, out);
     told(depths.refused, depths.count)
@@ -1033,6 +1074,7 @@ pub fn combined_depths_into(positions: usize, ab: &[u16], ba: &[u16], out: &mut 
 /// ```
 /// assert_eq!(gedrashiw::duplex_caller::depth_range(2, &[4, 5], &[3]), Ok((5, 7)));
 /// ```
+#[inline]
 pub fn depth_range(positions: usize, ab: &[u16], ba: &[u16]) -> Result<(u16, u16), Refusal> {
     let range = entries::gedrashiw_depth_range(positions, ab, ba);
     told(range.refused, (range.min, range.max))
@@ -1051,6 +1093,7 @@ pub fn depth_range(positions: usize, ab: &[u16], ba: &[u16]) -> Result<(u16, u16
 /// assert_eq!(figures, StrandFigures { largest: 32_767, smallest: 3, depths: 32_770, errors: 1 });
 /// # Ok::<(), gedrashiw::Refusal>(())
 /// ```
+#[inline]
 pub fn strand_metrics(strand: Counts) -> Result<StrandFigures, Refusal> {
     let f = entries::gedrashiw_strand_metrics(strand.depths, strand.errors);
     told(f.refused, StrandFigures { largest: f.largest, smallest: f.smallest, depths: f.depths, errors: f.errors })

@@ -1,8 +1,10 @@
-//! The library's entry points, each declared once, with a safe function of the same name that takes slices: the only unsafe code of
-//! this crate. An array is a pointer and the number of its elements. Where a reply's `refused` is not 0, it is the refusal's number.
+//! The library's entry points, each declared once, with a safe function of the same name that takes slices, or places: the only unsafe
+//! code of this crate but for one block, where vectors that a call has filled get their length. An array is a pointer and the number of
+//! its elements. Where a reply's `refused` is not 0, it is the refusal's number.
 #![expect(clippy::too_many_arguments, reason = "the entry points take all arrays one by one")]
 use crate::duplex_caller::MiPart;
 use crate::vanilla_caller::SourceRead;
+use std::mem::MaybeUninit;
 
 #[repr(C)]
 pub(crate) struct DuplexRecord {
@@ -116,7 +118,25 @@ pub(crate) struct DuplexTags {
     pub ml: usize,
 }
 
-/// Declares an entry point, and a safe function over it: a slice is passed as its pointer and its length.
+/// Places that an entry point writes to: a slice's, or the room of a vector, where no values are yet. The library is linked as machine
+/// code, so that a place without a value is to it one with any.
+pub(crate) struct Places<'a, T>(&'a mut [MaybeUninit<T>]);
+
+impl<'a, T: Copy> Places<'a, T> {
+    /// A slice's.
+    pub(crate) fn of(slice: &'a mut [T]) -> Self {
+        // SAFETY: both types have one layout, and an entry point, to which alone the places are lent, writes values only.
+        Self(unsafe { &mut *(std::ptr::from_mut(slice) as *mut [MaybeUninit<T>]) })
+    }
+
+    /// The room of a vector.
+    pub(crate) fn room(vector: &'a mut Vec<T>) -> Self {
+        Self(vector.spare_capacity_mut())
+    }
+}
+
+/// Declares an entry point, and a safe function over it: a slice is passed as its pointer and its length. It is inlined, as are the calls
+/// that take a few nanoseconds: a program has one call to make and not three.
 macro_rules! entry {
     ($(fn $name:ident($($params:tt)*) -> $reply:ty;)*) => { $(entry!(@ $name $reply; [] [] []; $($params)*,);)* };
     (@ $name:ident $reply:ty; [$($given:tt)*] [$($declared:tt)*] [$($passed:tt)*]; $p:ident: &mut [$t:ty], $($rest:tt)*) => {
@@ -127,16 +147,21 @@ macro_rules! entry {
         entry!(@ $name $reply; [$($given)* $p: &[$t],] [$($declared)* _: *const $t, _: usize,]
             [$($passed)* $p.as_ptr(), $p.len(),]; $($rest)*);
     };
+    (@ $name:ident $reply:ty; [$($given:tt)*] [$($declared:tt)*] [$($passed:tt)*]; $p:ident: Places<$t:ty>, $($rest:tt)*) => {
+        entry!(@ $name $reply; [$($given)* $p: Places<$t>,] [$($declared)* _: *mut $t, _: usize,]
+            [$($passed)* $p.0.as_mut_ptr().cast::<$t>(), $p.0.len(),]; $($rest)*);
+    };
     (@ $name:ident $reply:ty; [$($given:tt)*] [$($declared:tt)*] [$($passed:tt)*]; $p:ident: $t:ty, $($rest:tt)*) => {
         entry!(@ $name $reply; [$($given)* $p: $t,] [$($declared)* _: $t,] [$($passed)* $p,]; $($rest)*);
     };
     (@ $name:ident $reply:ty; [$($given:tt)*] [$($declared:tt)*] [$($passed:tt)*]; $(,)?) => {
+        #[inline]
         pub(crate) fn $name($($given)*) -> $reply {
             unsafe extern "C" {
                 fn $name($($declared)*) -> $reply;
             }
             // SAFETY: each pointer and length are those of one slice, so not null, and no output overlaps another slice. The entry
-            // point takes any values, keeps no pointer and writes within the outputs.
+            // point takes any values, keeps no pointer and writes within the outputs, and values only.
             unsafe { $name($($passed)*) }
         }
     };
@@ -183,14 +208,14 @@ entry! {
         bases: &[u8], quals: &[u8], depths: &[u16], errors: &[u16],
         annotation: u8, marks: &[u8], unconverted: &[u32], converted: &[u32],
         new_length: usize, left: u8, base: u8, qual: u8,
-        bases_out: &mut [u8], quals_out: &mut [u8], depths_out: &mut [u16], errors_out: &mut [u16],
-        marks_out: &mut [u8], unconverted_out: &mut [u32], converted_out: &mut [u32]) -> Number;
+        bases_out: Places<u8>, quals_out: Places<u8>, depths_out: Places<u16>, errors_out: Places<u16>,
+        marks_out: Places<u8>, unconverted_out: Places<u32>, converted_out: Places<u32>) -> Number;
     fn gedrashiw_padded_default(
         bases: &[u8], quals: &[u8], depths: &[u16], errors: &[u16],
         annotation: u8, marks: &[u8], unconverted: &[u32], converted: &[u32],
         new_length: usize, left: u8,
-        bases_out: &mut [u8], quals_out: &mut [u8], depths_out: &mut [u16], errors_out: &mut [u16],
-        marks_out: &mut [u8], unconverted_out: &mut [u32], converted_out: &mut [u32]) -> Number;
+        bases_out: Places<u8>, quals_out: Places<u8>, depths_out: Places<u16>, errors_out: Places<u16>,
+        marks_out: Places<u8>, unconverted_out: Places<u32>, converted_out: Places<u32>) -> Number;
     fn gedrashiw_gate_to_informative(marks: &mut [u8], unconverted: &mut [u32], converted: &mut [u32]) -> Count;
     fn gedrashiw_truncate(
         marks: &[u8], unconverted: &[u32], converted: &[u32], len: usize,

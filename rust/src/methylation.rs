@@ -28,6 +28,7 @@ impl MethylationMode {
     /// assert!(!MethylationMode::default().is_enabled());
     /// ```
     #[must_use]
+    #[inline]
     pub fn is_enabled(&self) -> bool {
         entries::gedrashiw_is_enabled(*self as u8).number != 0
     }
@@ -62,6 +63,7 @@ impl ConversionPattern {
     /// assert_eq!(ConversionPattern::from_read_flags(0x81), ConversionPattern::GToA);
     /// ```
     #[must_use]
+    #[inline]
     pub fn from_read_flags(read_flags: u16) -> Self {
         Self::of_number(entries::gedrashiw_from_read_flags(read_flags)).expect("a read has a pattern")
     }
@@ -74,6 +76,7 @@ impl ConversionPattern {
     /// assert_eq!(ConversionPattern::GToA.bases(), (b'G', b'G', b'A'));
     /// ```
     #[must_use]
+    #[inline]
     pub fn bases(self) -> (u8, u8, u8) {
         let bases = entries::gedrashiw_bases(self as u8);
         (bases.reference, bases.unconverted, bases.converted)
@@ -140,6 +143,14 @@ impl<'a> EvidenceArrays<'a> {
     }
 
     /// Its arrays, to write to.
+    ///
+    /// ```
+    /// use gedrashiw::methylation::{EvidenceArrays, gate_to_informative_into};
+    ///
+    /// let mut evidence = EvidenceArrays::new(&[0, 5], &[7, 7], &[8, 8]);
+    /// assert_eq!(gate_to_informative_into(&mut evidence.as_out()), Ok(2));
+    /// assert_eq!(evidence, EvidenceArrays::new(&[0, 1], &[0, 7], &[0, 8]));
+    /// ```
     pub fn as_out(&mut self) -> EvidenceOut<'_> {
         EvidenceOut {
             informative: self.informative.to_mut(),
@@ -255,6 +266,7 @@ impl<'a> MethylationAnnotation<'a> {
     /// assert_eq!(annotation.unconverted_counts_into(&mut out), Ok(2));
     /// assert_eq!(out, [3, 32_767, -1]);
     /// ```
+    #[inline]
     pub fn unconverted_counts_into(&self, out: &mut [i16]) -> Result<usize, Refusal> {
         let counts = entries::gedrashiw_unconverted_counts(&self.evidence.unconverted_count, as_u16(out));
         told(counts.refused, counts.count)
@@ -289,6 +301,7 @@ impl<'a> MethylationAnnotation<'a> {
     /// # let annotation = MethylationAnnotation { evidence, pattern: ConversionPattern::CToT };
     /// assert_eq!(annotation.converted_counts_into(&mut [0]), Err(gedrashiw::Refusal::OutputTooShort));
     /// ```
+    #[inline]
     pub fn converted_counts_into(&self, out: &mut [i16]) -> Result<usize, Refusal> {
         let counts = entries::gedrashiw_converted_counts(&self.evidence.converted_count, as_u16(out));
         told(counts.refused, counts.count)
@@ -357,6 +370,7 @@ impl<'a> MethylationAnnotation<'a> {
 /// assert!(!is_cpg_context(b"ACGT", 2, true));
 /// ```
 #[must_use]
+#[inline]
 pub fn is_cpg_context(ref_seq: &[u8], pos: usize, is_top_strand: bool) -> bool {
     entries::gedrashiw_is_cpg_context(ref_seq, pos, u8::from(is_top_strand)) != 0
 }
@@ -680,44 +694,44 @@ pub fn build_mm_tag_no_ml_into(
     told(tags.refused, (tags.tagged != 0).then_some(tags.mm))
 }
 
-/// The methylation tags of one strand of a record.
+/// The methylation tags of one strand of a record. Counts are numbers, or bytes (`N` is u8), two of them a count.
 #[derive(Clone, Debug, PartialEq, Eq)]
-pub struct StrandMethylationTags {
+pub struct StrandMethylationTags<N = i16> {
     /// Its MM text (`am`, `bm`), where it has a call.
     pub mm: Option<String>,
     /// Its unconverted counts (`au`, `bu`).
-    pub unconverted: Vec<i16>,
+    pub unconverted: Vec<N>,
     /// Its converted counts (`at`, `bt`).
-    pub converted: Vec<i16>,
+    pub converted: Vec<N>,
 }
 
-/// A record's sequence and its methylation tags.
+/// A record's sequence and its methylation tags. Counts are numbers, or bytes (`N` is u8), two of them a count.
 #[derive(Clone, Debug, PartialEq, Eq)]
-pub struct DuplexMethylationTags {
+pub struct DuplexMethylationTags<N = i16> {
     /// The sequence, each strand's calls restored to the unconverted base.
     pub seq: Vec<u8>,
     /// Of each annotation that was given, in strand order.
-    pub strands: Vec<StrandMethylationTags>,
+    pub strands: Vec<StrandMethylationTags<N>>,
     /// The combined MM and ML, C-to-T groups first, where a strand has a call.
     pub mm_ml: Option<(String, Vec<u8>)>,
     /// The strands' unconverted counts, added (`cu`).
-    pub unconverted: Vec<i16>,
+    pub unconverted: Vec<N>,
     /// The strands' converted counts, added (`ct`).
-    pub converted: Vec<i16>,
+    pub converted: Vec<N>,
 }
 
-/// Where the counts of a strand go, or those of both.
+/// Where the counts of a strand go, or those of both: as numbers, or as bytes (`N` is u8), two of them a count.
 #[derive(Debug, Default)]
-pub struct CountsOut<'a> {
+pub struct CountsOut<'a, N = i16> {
     /// Unconverted counts.
-    pub unconverted: &'a mut [i16],
+    pub unconverted: &'a mut [N],
     /// Converted counts.
-    pub converted: &'a mut [i16],
+    pub converted: &'a mut [N],
 }
 
 /// Where a record's sequence and tags go. Nothing goes to the outputs of an annotation that is missing.
 #[derive(Debug, Default)]
-pub struct DuplexTagsOut<'a> {
+pub struct DuplexTagsOut<'a, N = i16> {
     /// The sequence.
     pub seq: &'a mut [u8],
     /// The first strand's MM text: at most 5 bytes and 5 for each position.
@@ -729,11 +743,11 @@ pub struct DuplexTagsOut<'a> {
     /// The combined ML array: at most 2 for each position.
     pub ml: &'a mut [u8],
     /// The first strand's counts.
-    pub a: CountsOut<'a>,
+    pub a: CountsOut<'a, N>,
     /// The second strand's counts.
-    pub b: CountsOut<'a>,
+    pub b: CountsOut<'a, N>,
     /// The counts of both, added.
-    pub both: CountsOut<'a>,
+    pub both: CountsOut<'a, N>,
 }
 
 /// How much of each output is written; 0 for a tag that is not there.
@@ -791,35 +805,70 @@ pub fn duplex_methylation_tags(
     b: Option<&MethylationAnnotation>,
     methylation_mode: MethylationMode,
 ) -> Result<DuplexMethylationTags, Refusal> {
-    let positions = bases.len().min(MAX_POSITIONS);
-    let longest = longest_mm(positions);
-    let (mut seq, mut a_mm, mut b_mm) = (vec![0; positions], vec![0; longest], vec![0; longest]);
-    let (mut mm, mut ml) = (vec![0; 2 * longest], vec![0; 2 * positions]);
-    let counts = || (vec![0; positions], vec![0; positions]);
-    let (mut of_a, mut of_b, mut of_both) = (counts(), counts(), counts());
-    let mut out = DuplexTagsOut {
-        seq: &mut seq,
-        a_mm: &mut a_mm,
-        b_mm: &mut b_mm,
-        mm: &mut mm,
-        ml: &mut ml,
-        a: CountsOut { unconverted: &mut of_a.0, converted: &mut of_a.1 },
-        b: CountsOut { unconverted: &mut of_b.0, converted: &mut of_b.1 },
-        both: CountsOut { unconverted: &mut of_both.0, converted: &mut of_both.1 },
-    };
-    let lengths = duplex_methylation_tags_into(bases, a, b, methylation_mode, &mut out)?;
-    let tag = |mm: Vec<u8>, length: usize| (length != 0).then(|| text(mm, length));
-    let strand = |mm: Option<String>, (unconverted, converted)| StrandMethylationTags { mm, unconverted, converted };
-    let first = a.map(|_| strand(tag(a_mm, lengths.a_mm), of_a));
-    let second = b.map(|_| strand(tag(b_mm, lengths.b_mm), of_b));
-    ml.truncate(lengths.ml);
-    Ok(DuplexMethylationTags {
-        seq,
-        strands: first.into_iter().chain(second).collect(),
-        mm_ml: tag(mm, lengths.mm).map(|mm| (mm, ml)),
-        unconverted: of_both.0,
-        converted: of_both.1,
-    })
+    TagBuffers::of(bases, 1)
+        .written(a.is_some(), b.is_some(), |out| duplex_methylation_tags_into(bases, a, b, methylation_mode, out))
+}
+
+/// Vectors for the sequence and the tags of a record.
+pub(crate) struct TagBuffers<N> {
+    seq: Vec<u8>,
+    a_mm: Vec<u8>,
+    b_mm: Vec<u8>,
+    mm: Vec<u8>,
+    ml: Vec<u8>,
+    of_a: (Vec<N>, Vec<N>),
+    of_b: (Vec<N>, Vec<N>),
+    of_both: (Vec<N>, Vec<N>),
+}
+
+impl<N: Clone + Default> TagBuffers<N> {
+    /// For a record of these bases, or of as many as it may have; with so many places for each count.
+    pub(crate) fn of(bases: &[u8], each: usize) -> Self {
+        let positions = bases.len().min(MAX_POSITIONS);
+        let longest = longest_mm(positions);
+        let counts = || (vec![N::default(); each * positions], vec![N::default(); each * positions]);
+        TagBuffers {
+            seq: vec![0; positions],
+            a_mm: vec![0; longest],
+            b_mm: vec![0; longest],
+            mm: vec![0; 2 * longest],
+            ml: vec![0; 2 * positions],
+            of_a: counts(),
+            of_b: counts(),
+            of_both: counts(),
+        }
+    }
+
+    /// What a call writes to them, of the annotations that are there.
+    pub(crate) fn written(
+        mut self,
+        a: bool,
+        b: bool,
+        write: impl FnOnce(&mut DuplexTagsOut<N>) -> Result<DuplexTagLengths, Refusal>,
+    ) -> Result<DuplexMethylationTags<N>, Refusal> {
+        let lengths = write(&mut DuplexTagsOut {
+            seq: &mut self.seq,
+            a_mm: &mut self.a_mm,
+            b_mm: &mut self.b_mm,
+            mm: &mut self.mm,
+            ml: &mut self.ml,
+            a: CountsOut { unconverted: &mut self.of_a.0, converted: &mut self.of_a.1 },
+            b: CountsOut { unconverted: &mut self.of_b.0, converted: &mut self.of_b.1 },
+            both: CountsOut { unconverted: &mut self.of_both.0, converted: &mut self.of_both.1 },
+        })?;
+        let tag = |mm: Vec<u8>, length: usize| (length != 0).then(|| text(mm, length));
+        let strand = |mm: Option<String>, (unconverted, converted)| StrandMethylationTags { mm, unconverted, converted };
+        let first = a.then(|| strand(tag(self.a_mm, lengths.a_mm), self.of_a));
+        let second = b.then(|| strand(tag(self.b_mm, lengths.b_mm), self.of_b));
+        self.ml.truncate(lengths.ml);
+        Ok(DuplexMethylationTags {
+            seq: self.seq,
+            strands: first.into_iter().chain(second).collect(),
+            mm_ml: tag(self.mm, lengths.mm).map(|mm| (mm, self.ml)),
+            unconverted: self.of_both.0,
+            converted: self.of_both.1,
+        })
+    }
 }
 
 /// Writes what [`duplex_methylation_tags`] returns; answers how much of each output is written.

@@ -15,6 +15,7 @@ pub const MAX_PHRED: u8 = 93;
 /// assert_eq!([0, 2, 93, 120].map(cap_quality), [2, 2, 93, 93]);
 /// ```
 #[must_use]
+#[inline]
 pub fn cap_quality(score: u16) -> u8 {
     entries::gedrashiw_cap_quality(score)
 }

@@ -99,6 +99,7 @@ impl fmt::Display for Refusal {
 impl std::error::Error for Refusal {}
 
 /// The value of a call, unless it answered a refusal's number.
+#[inline]
 pub(crate) fn told<T>(refused: u8, value: T) -> Result<T, Refusal> {
     match refused {
         0 => Ok(value),

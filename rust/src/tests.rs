@@ -1,7 +1,7 @@
 use super::methylation::ConversionPattern::{CToT, GToA};
 use super::methylation::{ConversionPattern, EvidenceArrays, MethylationEvidence, duplex_methylation_tags};
 use super::*;
-use crate::bytes::{CountBytes, CountBytesOut, EVIDENCE_BYTES, RecordBytesOut, StrandBytes, TagBytesOut};
+use crate::bytes::{CountBytes, CountBytesOut, EVIDENCE_BYTES, RecordBytes, RecordBytesOut, StrandBytes, TagBytesOut};
 use crate::duplex_caller::{Counts, duplex_metrics};
 
 type Strand<'a> = VanillaConsensusRead<'a>;
@@ -217,6 +217,22 @@ fn no_calls(a: &[u16], b: Option<&[u16]>, bases: &[u8]) -> u32 {
     duplex_metrics(a, b, bases, &[0; 4][..bases.len()]).unwrap().nc
 }
 
+/// Padded to its own length a strand is a copy with its annotation, to more it has none; refused, there is no vector.
+#[test]
+fn padded_vectors() {
+    let s = annotated(strand(b"CG", &[30, 20], &[4, 5], &[0, 1]), CToT, &[evidence(true, 3, 1), evidence(false, 0, 2)]);
+    assert_eq!(s.padded(2, true, b'N', 2).unwrap(), s);
+    assert_eq!(s.padded_default(2, false).unwrap(), s);
+    let longer = strand(b"CGn", &[30, 20, 2], &[4, 5, 0], &[0, 1, 0]);
+    assert_eq!(s.padded_default(3, false).unwrap(), longer);
+    assert_eq!(strand(b"", &[], &[], &[]).padded(0, true, b'N', 2).unwrap().len(), 0);
+    for (length, refusal) in [(1, Refusal::BelowLength), (MAX_POSITIONS + 1, Refusal::TooLong), (usize::MAX, Refusal::TooLong)] {
+        assert_eq!(s.padded(length, true, b'N', 2), Err(refusal));
+        assert_eq!(s.padded_default(length, true), Err(refusal));
+    }
+    assert_eq!(strand(b"CG", &[30], &[4, 5], &[0, 1]).padded(4, true, b'N', 2), Err(Refusal::Ragged));
+}
+
 /// Padding is no no-call: N and n at either end, with the depth of either strand or none.
 #[test]
 fn padding_is_no_no_call() {
@@ -251,6 +267,17 @@ fn as_bytes() {
     assert_eq!(record, Ok(Some(Record { kind: Kind::Ab, positions: 2 })));
     assert_eq!((&bases, quals, errors), (b"CC", [30; 2], [1, 0, 1, 0]));
     assert_eq!((&first[..9], &first[9..]), (&marks[..9], &[0; 9][..]));
+    let made = RecordBytes {
+        kind: Kind::Ab,
+        bases: bases.into(),
+        quals: quals.into(),
+        errors: errors.into(),
+        first_evidence: Some(first.into()),
+        second_evidence: None,
+    };
+    assert_eq!(bytes::duplex_consensus(Some(&a), None, None), Ok(Some(made.clone())));
+    assert_eq!(bytes::duplex_consensus(None, Some(&a), None), Ok(Some(RecordBytes { kind: Kind::Ba, ..made })));
+    assert_eq!(bytes::duplex_consensus(None, None, None), Ok(None));
     let words = bytes::metrics(counts, None, &bases, &errors).unwrap();
     let m = duplex_metrics(Counts { depths: &[5, 6], errors: &[1, 1] }, None, b"CC", &[1, 1]).unwrap();
     let expected = [m.aD, m.aM, m.aE.to_bits(), m.bD, m.bM, m.bE.to_bits(), m.cD, m.cM, m.cE.to_bits(), m.nc];
@@ -282,7 +309,10 @@ fn tags_as_bytes() {
     let (a, b) = (Some((CToT, &of_a[..])), Some((GToA, &of_b[..])));
     let broken = bytes::methylation_tags_into(b"TA", Some((CToT, &of_a[1..])), b, MethylationMode::EmSeq, &mut out);
     assert_eq!(broken, Err(Refusal::Broken));
+    assert_eq!(bytes::methylation_tags(b"TAT", a, b, MethylationMode::EmSeq), Err(Refusal::Ragged));
     let lengths = bytes::methylation_tags_into(b"TA", a, b, MethylationMode::EmSeq, &mut out).unwrap();
+    let owned = bytes::methylation_tags(b"TA", a, b, MethylationMode::EmSeq).unwrap();
+    assert_eq!((&owned.seq, &owned.mm_ml), (&tags.seq, &tags.mm_ml));
     let (both_mm, both_ml) = tags.mm_ml.unwrap();
     assert_eq!((lengths.positions, &seq[..]), (2, &tags.seq[..]));
     assert_eq!((&mm[..lengths.mm], &ml[..lengths.ml]), (both_mm.as_bytes(), &both_ml[..]));
@@ -291,8 +321,12 @@ fn tags_as_bytes() {
     let [first, second] = &tags.strands[..] else { panic!("two strands") };
     let numbers =
         [&first.unconverted, &first.converted, &second.unconverted, &second.converted, &tags.unconverted, &tags.converted];
-    for (written, numbers) in counts.iter().zip(numbers) {
+    let [a, b] = &owned.strands[..] else { panic!("two strands") };
+    assert_eq!((&a.mm, &b.mm), (&first.mm, &second.mm));
+    let owned = [&a.unconverted, &a.converted, &b.unconverted, &b.converted, &owned.unconverted, &owned.converted];
+    for ((written, owned), numbers) in counts.iter().zip(owned).zip(numbers) {
         assert_eq!(written[..], numbers.iter().flat_map(|n| n.to_le_bytes()).collect::<Vec<u8>>()[..]);
+        assert_eq!(owned[..], written[..]);
     }
 }
 

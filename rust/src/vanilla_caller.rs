@@ -1,7 +1,7 @@
 //! The consensus of one strand, and source reads.
 use crate::MAX_POSITIONS;
 use crate::caller::calculate_error_rate;
-use crate::entries;
+use crate::entries::{self, Places};
 use crate::methylation::{ConversionPattern, EvidenceArrays, EvidenceOut, Given, MethylationAnnotation};
 use crate::refusal::{Refusal, told};
 use std::borrow::Cow;
@@ -154,6 +154,7 @@ impl<'a> VanillaConsensusRead<'a> {
     /// let strand = VanillaConsensusRead::new(b"ACG", &[30; 3], &[5, 40_000, 3], &[0; 3]);
     /// assert_eq!(strand.max_depth(), Ok(40_000));
     /// ```
+    #[inline]
     pub fn max_depth(&self) -> Result<u16, Refusal> {
         let depth = entries::gedrashiw_max_depth(&self.depths);
         told(depth.refused, depth.number as u16)
@@ -170,6 +171,7 @@ impl<'a> VanillaConsensusRead<'a> {
     /// let strand = VanillaConsensusRead::new(b"ACG", &[30; 3], &[5, 40_000, 3], &[0; 3]);
     /// assert_eq!(strand.min_depth(), Ok(3));
     /// ```
+    #[inline]
     pub fn min_depth(&self) -> Result<u16, Refusal> {
         let depth = entries::gedrashiw_min_depth(&self.depths);
         told(depth.refused, depth.number as u16)
@@ -185,6 +187,7 @@ impl<'a> VanillaConsensusRead<'a> {
     /// # use gedrashiw::VanillaConsensusRead;
     /// assert_eq!(VanillaConsensusRead::new(b"AC", &[30; 2], &[4, 4], &[1, 0]).error_rate(), Ok(0.125));
     /// ```
+    #[inline]
     pub fn error_rate(&self) -> Result<f32, Refusal> {
         calculate_error_rate(&self.depths, &self.errors)
     }
@@ -205,7 +208,7 @@ impl<'a> VanillaConsensusRead<'a> {
     /// # Ok::<(), gedrashiw::Refusal>(())
     /// ```
     pub fn padded(&self, new_length: usize, left: bool, base: u8, qual: u8) -> Result<VanillaConsensusRead<'static>, Refusal> {
-        self.owned(new_length, |out| self.padded_into(new_length, left, base, qual, out))
+        self.owned(new_length, |places| self.pad(new_length, left, base, qual, places))
     }
 
     /// [`Self::padded`] with the base n and quality 2.
@@ -221,7 +224,7 @@ impl<'a> VanillaConsensusRead<'a> {
     /// # Ok::<(), gedrashiw::Refusal>(())
     /// ```
     pub fn padded_default(&self, new_length: usize, left: bool) -> Result<VanillaConsensusRead<'static>, Refusal> {
-        self.owned(new_length, |out| self.padded_default_into(new_length, left, out))
+        self.owned(new_length, |places| self.pad_default(new_length, left, places))
     }
 
     /// Writes [`Self::padded`] to `new_length` places; answers the pattern of the annotation that it keeps.
@@ -246,6 +249,7 @@ impl<'a> VanillaConsensusRead<'a> {
     /// assert_eq!(strand.padded_into(5, false, b'N', 2, &mut out), Ok(None));
     /// assert_eq!((&bases, quals), (b"ACGNN.", [30, 30, 30, 2, 2, 9]));
     /// ```
+    #[inline]
     pub fn padded_into(
         &self,
         new_length: usize,
@@ -254,29 +258,7 @@ impl<'a> VanillaConsensusRead<'a> {
         qual: u8,
         out: &mut StrandOut,
     ) -> Result<Option<ConversionPattern>, Refusal> {
-        let given = Given::of(self.methylation.as_ref());
-        let padded = entries::gedrashiw_padded(
-            &self.bases,
-            &self.quals,
-            &self.depths,
-            &self.errors,
-            given.annotation,
-            given.marks,
-            given.unconverted,
-            given.converted,
-            new_length,
-            u8::from(left),
-            base,
-            qual,
-            out.bases,
-            out.quals,
-            out.depths,
-            out.errors,
-            out.evidence.informative,
-            out.evidence.unconverted_count,
-            out.evidence.converted_count,
-        );
-        told(padded.refused, ConversionPattern::of_number(padded.number as u8))
+        self.pad(new_length, left, base, qual, out.places())
     }
 
     /// Writes [`Self::padded_default`] to `new_length` places; answers the pattern of the annotation that it keeps.
@@ -292,12 +274,77 @@ impl<'a> VanillaConsensusRead<'a> {
     /// let strand = VanillaConsensusRead::new(b"ACG", &[30; 3], &[4, 5, 6], &[0, 3, 0]);
     /// assert_eq!(strand.padded_default_into(5, true, &mut StrandOut::default()), Err(Refusal::OutputTooShort));
     /// ```
+    #[inline]
     pub fn padded_default_into(
         &self,
         new_length: usize,
         left: bool,
         out: &mut StrandOut,
     ) -> Result<Option<ConversionPattern>, Refusal> {
+        self.pad_default(new_length, left, out.places())
+    }
+}
+
+/// Where an entry point writes a strand.
+struct StrandPlaces<'a> {
+    bases: Places<'a, u8>,
+    quals: Places<'a, u8>,
+    depths: Places<'a, u16>,
+    errors: Places<'a, u16>,
+    marks: Places<'a, u8>,
+    unconverted: Places<'a, u32>,
+    converted: Places<'a, u32>,
+}
+
+impl StrandOut<'_> {
+    fn places(&mut self) -> StrandPlaces<'_> {
+        StrandPlaces {
+            bases: Places::of(self.bases),
+            quals: Places::of(self.quals),
+            depths: Places::of(self.depths),
+            errors: Places::of(self.errors),
+            marks: Places::of(self.evidence.informative),
+            unconverted: Places::of(self.evidence.unconverted_count),
+            converted: Places::of(self.evidence.converted_count),
+        }
+    }
+}
+
+impl VanillaConsensusRead<'_> {
+    fn pad(
+        &self,
+        new_length: usize,
+        left: bool,
+        base: u8,
+        qual: u8,
+        places: StrandPlaces,
+    ) -> Result<Option<ConversionPattern>, Refusal> {
+        let given = Given::of(self.methylation.as_ref());
+        let padded = entries::gedrashiw_padded(
+            &self.bases,
+            &self.quals,
+            &self.depths,
+            &self.errors,
+            given.annotation,
+            given.marks,
+            given.unconverted,
+            given.converted,
+            new_length,
+            u8::from(left),
+            base,
+            qual,
+            places.bases,
+            places.quals,
+            places.depths,
+            places.errors,
+            places.marks,
+            places.unconverted,
+            places.converted,
+        );
+        told(padded.refused, ConversionPattern::of_number(padded.number as u8))
+    }
+
+    fn pad_default(&self, new_length: usize, left: bool, places: StrandPlaces) -> Result<Option<ConversionPattern>, Refusal> {
         let given = Given::of(self.methylation.as_ref());
         let padded = entries::gedrashiw_padded_default(
             &self.bases,
@@ -310,43 +357,58 @@ impl<'a> VanillaConsensusRead<'a> {
             given.converted,
             new_length,
             u8::from(left),
-            out.bases,
-            out.quals,
-            out.depths,
-            out.errors,
-            out.evidence.informative,
-            out.evidence.unconverted_count,
-            out.evidence.converted_count,
+            places.bases,
+            places.quals,
+            places.depths,
+            places.errors,
+            places.marks,
+            places.unconverted,
+            places.converted,
         );
         told(padded.refused, ConversionPattern::of_number(padded.number as u8))
     }
-}
 
-/// So many places. Memory that is asked for as zeros (`vec![0; n]`) takes longer to get than it takes to fill so little.
-fn places<T: Clone + Default>(n: usize) -> Vec<T> {
-    let mut places = Vec::with_capacity(n);
-    places.resize(n, T::default());
-    places
-}
-
-impl VanillaConsensusRead<'_> {
-    /// This strand at another length, as a call writes it; its annotation is of the pattern that the call answers. Evidence is written
-    /// only where the length is its own: otherwise it needs no places.
+    /// This strand at another length, as a call writes it; its annotation is of the pattern that the call answers. The vectors have room,
+    /// and values only once the call has written them. Evidence is written only where the length is its own: otherwise it needs no places.
     fn owned(
         &self,
         new_length: usize,
-        write: impl FnOnce(&mut StrandOut) -> Result<Option<ConversionPattern>, Refusal>,
+        write: impl FnOnce(StrandPlaces) -> Result<Option<ConversionPattern>, Refusal>,
     ) -> Result<VanillaConsensusRead<'static>, Refusal> {
         let n = new_length.min(MAX_POSITIONS);
-        let (mut bases, mut quals, mut depths, mut errors) = (places(n), places(n), places(n), places(n));
-        let mut evidence = EvidenceArrays::clear(if self.methylation.is_some() && self.len() == new_length { n } else { 0 });
-        let pattern = write(&mut StrandOut {
-            bases: &mut bases,
-            quals: &mut quals,
-            depths: &mut depths,
-            errors: &mut errors,
-            evidence: evidence.as_out(),
+        let with_evidence = if self.methylation.is_some() && self.len() == new_length { n } else { 0 };
+        let (mut bases, mut quals) = (Vec::with_capacity(n), Vec::with_capacity(n));
+        let (mut depths, mut errors) = (Vec::with_capacity(n), Vec::with_capacity(n));
+        let mut marks = Vec::with_capacity(with_evidence);
+        let (mut unconverted, mut converted) = (Vec::with_capacity(with_evidence), Vec::with_capacity(with_evidence));
+        let pattern = write(StrandPlaces {
+            bases: Places::room(&mut bases),
+            quals: Places::room(&mut quals),
+            depths: Places::room(&mut depths),
+            errors: Places::room(&mut errors),
+            marks: Places::room(&mut marks),
+            unconverted: Places::room(&mut unconverted),
+            converted: Places::room(&mut converted),
         })?;
+        // SAFETY: the call was accepted, so `new_length` is at most MAX_POSITIONS, and n. The contract of the entry point says that an
+        // accepted call has written a strand of so many positions to the front of the four outputs, and to those of the evidence
+        // where it answers a pattern; each vector has room for as many.
+        unsafe {
+            bases.set_len(n);
+            quals.set_len(n);
+            depths.set_len(n);
+            errors.set_len(n);
+            if pattern.is_some() {
+                marks.set_len(with_evidence);
+                unconverted.set_len(with_evidence);
+                converted.set_len(with_evidence);
+            }
+        }
+        let evidence = EvidenceArrays {
+            informative: marks.into(),
+            unconverted_count: unconverted.into(),
+            converted_count: converted.into(),
+        };
         Ok(VanillaConsensusRead {
             bases: bases.into(),
             quals: quals.into(),
