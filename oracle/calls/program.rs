@@ -1,11 +1,15 @@
 // Times of the calls that the other programs leave out, ours and the Rust's, on the same inputs: reads and their gates, padding,
 // depths, metrics, counts; metrics also from bytes to bytes.
 use super::*;
-use crate::caller::calculate_error_rate;
+use crate::caller::{self as rust_caller, calculate_error_rate};
 use crate::methylation::{self as rust_methylation, MethylationAnnotation, MethylationEvidence};
-use crate::vanilla_caller::VanillaConsensusRead;
+use crate::MethylationMode;
+use crate::vanilla_caller::{ReadType as RustReadType, VanillaConsensusRead};
 use draw::Draw;
-use gedrashiw::duplex_caller::{Counts, combined_depths_into, depth_range, depths_have_minimum_reads, duplex_metrics};
+use gedrashiw::caller as ours_caller;
+use gedrashiw::duplex_caller::{
+    Counts, combined_depths_into, depth_range, depths_have_minimum_reads, duplex_metrics, methylation_strand_bases_into, strand_metrics,
+};
 use gedrashiw::methylation as ours_methylation;
 use gedrashiw::{DuplexConsensusCaller as Ours, MiPart, StrandOut};
 use std::hint::black_box;
@@ -146,6 +150,8 @@ fn of_strands(draw: &mut Draw) {
         let (mut bases, mut quals, mut depths, mut errors) = (vec![0; n + 50], vec![0; n + 50], vec![0; n + 50], vec![0; n + 50]);
         let mut out = StrandOut { bases: &mut bases, quals: &mut quals, depths: &mut depths, errors: &mut errors, ..Default::default() };
         each(&format!("padded_into {} positions", n + 50), &pairs, |(_, s)| s.padded_into(n + 50, true, b'n', 2, &mut out), |(x, _)| x.record.ab_consensus.padded(n + 50, true, b'n', 2));
+        each(&format!("padded_default to {} positions", n + 50), &pairs, |(_, s)| s.padded_default(n + 50, true), |(x, _)| x.record.ab_consensus.padded_default(n + 50, true));
+        each(&format!("strand metrics, {n} positions"), &pairs, |(x, _)| strand_metrics(counts(&x.a)), |(x, _)| DuplexConsensusCaller::ab_metrics(&x.record.ab_consensus));
         let mut out = vec![0; n];
         each(
             &format!("combined_depths, {n} positions"),
@@ -160,14 +166,168 @@ fn of_strands(draw: &mut Draw) {
             |(x, _)| depths_have_minimum_reads(n, &x.a[0], &x.b[0], &[5, 3, 1]),
             |(x, _)| DuplexConsensusCaller::duplex_consensus_has_minimum_reads(&x.record, 5, 3, 1),
         );
-        let annotation = |x: &'static Numbers| ours_methylation::MethylationAnnotation {
-            evidence: ours_methylation::EvidenceArrays::new(&x.marks, &x.evidence[0], &x.evidence[1]),
-            pattern: ours_methylation::ConversionPattern::CToT,
-        };
-        let annotated: Vec<_> = inputs.iter().map(|x| (x, annotation(x))).collect();
-        let mut counts = vec![0; n];
-        each(&format!("unconverted_counts, {n} positions"), &annotated, |(_, m)| m.unconverted_counts_into(&mut counts), |(x, _)| x.annotation.unconverted_counts());
+        of_annotations(inputs, n);
     }
+}
+
+fn annotation(x: &Numbers) -> ours_methylation::MethylationAnnotation<'_> {
+    ours_methylation::MethylationAnnotation {
+        evidence: ours_methylation::EvidenceArrays::new(&x.marks, &x.evidence[0], &x.evidence[1]),
+        pattern: ours_methylation::ConversionPattern::CToT,
+    }
+}
+
+// What changes its arrays changes a copy, on both sides: ours in the same arrays again and again.
+fn of_annotations(inputs: &[Numbers], n: usize) {
+    let annotated: Vec<_> = inputs.iter().map(|x| (x, annotation(x))).collect();
+    let strands: Vec<_> = annotated
+        .iter()
+        .map(|(x, m)| gedrashiw::VanillaConsensusRead { methylation: Some(m.clone()), ..gedrashiw::VanillaConsensusRead::new(&x.bases, &[], &[], &[]) })
+        .collect();
+    let rust_strands: Vec<_> = inputs
+        .iter()
+        .map(|x| VanillaConsensusRead { methylation: Some(x.annotation.clone()), ..strand(&x.bases, &x.quals, &x.a) })
+        .collect();
+    let of_both: Vec<_> = strands.iter().zip(&rust_strands).collect();
+    let mut counts = vec![0; n];
+    each(&format!("unconverted_counts, {n} positions"), &annotated, |(_, m)| m.unconverted_counts_into(&mut counts), |(x, _)| x.annotation.unconverted_counts());
+    each(&format!("converted_counts, {n} positions"), &annotated, |(_, m)| m.converted_counts_into(&mut counts), |(x, _)| x.annotation.converted_counts());
+    each(
+        &format!("summed_counts of both kinds, {n} positions"),
+        inputs,
+        |x| x.evidence.each_ref().map(|of_a| ours_methylation::summed_counts_into(n, of_a, &x.evidence[0], &mut counts)),
+        |x| rust_methylation::summed_counts(&x.bases, &[&x.annotation, &x.annotation]),
+    );
+    let (mut marks, mut unconverted, mut converted) = (vec![0; n], vec![0; n], vec![0; n]);
+    let mut out = ours_methylation::EvidenceOut { informative: &mut marks, unconverted_count: &mut unconverted, converted_count: &mut converted };
+    each(&format!("truncate to {} positions", n - 10), &annotated, |(_, m)| m.truncate_into(n - 10, &mut out), |(x, _)| x.annotation.truncate(n - 10));
+    each(
+        &format!("gate_to_informative of a copy, {n} positions"),
+        inputs,
+        |x| {
+            out.informative.copy_from_slice(&x.marks);
+            out.unconverted_count.copy_from_slice(&x.evidence[0]);
+            out.converted_count.copy_from_slice(&x.evidence[1]);
+            ours_methylation::gate_to_informative_into(&mut out)
+        },
+        |x| {
+            let mut copy = x.annotation.clone();
+            rust_methylation::gate_to_informative(&mut copy);
+            copy
+        },
+    );
+    let mut bases = vec![0; n];
+    each(
+        &format!("restore_unconverted_bases of a copy, {n} positions"),
+        &annotated,
+        |(x, m)| {
+            bases.copy_from_slice(&x.bases);
+            ours_methylation::restore_unconverted_bases(&mut bases, m)
+        },
+        |(x, _)| {
+            let mut copy = x.bases.clone();
+            rust_methylation::restore_unconverted_bases(&mut copy, &x.annotation);
+            copy
+        },
+    );
+    each(
+        &format!("methylation_strand_bases, {n} positions"),
+        &of_both,
+        |(ours, _)| methylation_strand_bases_into(ours, &mut bases),
+        |(_, rust)| methylation_strand_bases(rust).len(),
+    );
+}
+
+fn of_thresholds(draw: &mut Draw) {
+    let list = |draw: &mut Draw| {
+        let list: Vec<u32> = [5 + draw.below(3), 2 + draw.below(3), draw.below(3)][..1 + draw.below(3)].iter().map(|&n| n as u32).collect();
+        (list.iter().map(|&n| n as usize).collect::<Vec<usize>>(), list)
+    };
+    let inputs: Vec<_> = (0..INPUTS).map(|_| list(draw)).collect();
+    each("validate_min_reads", &inputs, |(_, list)| Ours::validate_min_reads(list), |(list, _)| DuplexConsensusCaller::validate_min_reads(list));
+    each("min_yx_reads_for", &inputs, |(_, list)| Ours::min_yx_reads_for(list), |(list, _)| DuplexConsensusCaller::min_yx_reads_for(list));
+    each(
+        "allows_single_strand_consensus",
+        &inputs,
+        |(_, list)| Ours::allows_single_strand_consensus(list),
+        |(list, _)| DuplexConsensusCaller::allows_single_strand_consensus(list),
+    );
+}
+
+// Calls of one name, base or number: what passing through the library costs.
+fn of_one(draw: &mut Draw) {
+    let umis: Vec<String> = (0..INPUTS).map(|_| format!("{}-{}", draw.next(), draw.below(10))).collect();
+    let (mut ours, mut rust) = (Vec::new(), Vec::new());
+    each(
+        "write_consensus_read_name",
+        &umis,
+        |umi| ours_caller::write_consensus_read_name(&mut ours, "fgumi", umi),
+        |umi| rust_caller::write_consensus_read_name(&mut rust, "fgumi", umi),
+    );
+    let mut out = [0; 64];
+    each(
+        "write_consensus_read_name_into",
+        &umis,
+        |umi| ours_caller::write_consensus_read_name_into(&mut out, b"fgumi", umi.as_bytes()),
+        |umi| rust_caller::write_consensus_read_name(&mut rust, "fgumi", umi),
+    );
+    let mis: Vec<&[u8]> = (0..INPUTS).map(|_| draw.pick(&[&b"1234567/A"[..], b"1234567/B", b"1234567"])).collect();
+    each("extract_strand_from_mi_bytes", &mis, |mi| Ours::extract_strand_from_mi_bytes(mi), |mi| DuplexConsensusCaller::extract_strand_from_mi_bytes(mi));
+    let bases: Vec<(u8, u8)> = draw.many(INPUTS, |draw| (draw.pick(b"CTGA"), draw.pick(b"CTGA")));
+    each("is_error", &bases, |&(a, b)| Ours::is_error(a, b), |&(a, b)| DuplexConsensusCaller::is_error(a, b));
+    each("molecule_call", &bases, |&(a, b)| Ours::molecule_call(a, b), |&(a, b)| DuplexConsensusCaller::molecule_call(a, b));
+    let flags: Vec<(u16, RawRecord)> = draw.many(INPUTS, |draw| {
+        let flags = draw.pick(&[0x41, 0x81, 0x51, 0x91, 0x1, 0]);
+        (flags, RawRecord { number: 0, flags, mi: None })
+    });
+    each("is_paired", &flags, |&(flags, _)| Ours::is_paired(flags), |(_, record)| DuplexConsensusCaller::is_paired(record));
+    each("is_paired_r1", &flags, |&(flags, _)| Ours::is_paired_r1(flags), |(_, record)| DuplexConsensusCaller::is_paired_r1(record));
+    each("is_paired_r2", &flags, |&(flags, _)| Ours::is_paired_r2(flags), |(_, record)| DuplexConsensusCaller::is_paired_r2(record));
+    let types = [
+        (gedrashiw::ReadType::Fragment, RustReadType::Fragment),
+        (gedrashiw::ReadType::R1, RustReadType::R1),
+        (gedrashiw::ReadType::R2, RustReadType::R2),
+    ];
+    let types: Vec<_> = (0..INPUTS).map(|k| types[k % 3]).collect();
+    each("written_flags", &types, |&(ours, _)| Ours::written_flags(ours), |&(_, rust)| DuplexConsensusCaller::written_flags(rust));
+    let patterns = [
+        (ours_methylation::ConversionPattern::CToT, rust_methylation::ConversionPattern::CToT),
+        (ours_methylation::ConversionPattern::GToA, rust_methylation::ConversionPattern::GToA),
+    ];
+    let patterns: Vec<_> = (0..INPUTS).map(|k| patterns[k % 2]).collect();
+    each("ConversionPattern::bases", &patterns, |&(ours, _)| ours.bases(), |&(_, rust)| rust.bases());
+    let modes = [
+        (gedrashiw::MethylationMode::Disabled, MethylationMode::Disabled),
+        (gedrashiw::MethylationMode::EmSeq, MethylationMode::EmSeq),
+        (gedrashiw::MethylationMode::Taps, MethylationMode::Taps),
+    ];
+    let modes: Vec<_> = (0..INPUTS).map(|k| modes[k % 3]).collect();
+    each("MethylationMode::is_enabled", &modes, |(ours, _)| ours.is_enabled(), |(_, rust)| rust.is_enabled());
+    let reference: Vec<u8> = draw.many(300, |draw| draw.pick(b"ACGTacgt"));
+    let at: Vec<usize> = draw.many(INPUTS, |draw| draw.below(300));
+    each(
+        "is_cpg_context",
+        &at,
+        |&i| ours_methylation::is_cpg_context(&reference, i, i % 2 == 0),
+        |&i| rust_methylation::is_cpg_context(&reference, i, i % 2 == 0),
+    );
+    let depths: Vec<u16> = draw.many(INPUTS, |draw| draw.next() as u16);
+    each("cap_quality", &depths, |&n| gedrashiw::phred::cap_quality(n), |&n| DuplexConsensusCaller::cap_quality(i32::from(n)));
+    each("clamp_per_base_to_fgbio_short", &depths, |&n| ours_caller::clamp_per_base_to_fgbio_short(n), |&n| rust_caller::clamp_per_base_to_fgbio_short(n));
+    each(
+        "clamp_combined_error_to_fgbio_short",
+        &depths,
+        |&n| ours_caller::clamp_combined_error_to_fgbio_short(i32::from(n)),
+        |&n| rust_caller::clamp_combined_error_to_fgbio_short(i64::from(n)),
+    );
+    each("from_read_flags", &depths, |&n| ours_methylation::ConversionPattern::from_read_flags(n), |&n| rust_methylation::ConversionPattern::from_read_flags(n));
+    let sums: Vec<(u32, u32)> = draw.many(INPUTS, |draw| (draw.below(1000) as u32, 1 + draw.below(100_000) as u32));
+    each(
+        "rate_bits",
+        &sums,
+        |&(e, d)| ours_caller::rate_bits(e, d),
+        |&(e, d)| DuplexConsensusCaller::rate(i64::from(e), i64::from(d)).to_bits(),
+    );
 }
 
 // Reads of a molecule with the flags of some kinds: as records, and as flags, parts and bytes.
@@ -217,6 +377,8 @@ fn of_reads(draw: &mut Draw) {
 pub fn main() {
     println!("{:52} {:>10} {:>10} {:>7}", "a call", "ours, ns", "Rust, ns", "ratio");
     let mut draw = Draw::new(1);
+    of_thresholds(&mut draw);
+    of_one(&mut draw);
     of_reads(&mut draw);
     of_strands(&mut draw);
     of_metrics(&mut draw);

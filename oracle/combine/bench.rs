@@ -3,8 +3,9 @@
 use super::super::DuplexConsensusCaller;
 use super::case::{Case, Outputs, Read, Strand};
 use super::draw::Draw;
+use super::molecules::{Kind, molecule};
 use super::timing::medians;
-use super::{ours, rust};
+use super::{library, rust};
 use crate::vanilla_caller::{SourceRead, VanillaConsensusRead};
 use gedrashiw::bytes::{CountBytes, RecordBytesOut, StrandBytes, duplex_consensus_into, no_call_reason};
 use gedrashiw::methylation::ConversionPattern;
@@ -12,47 +13,6 @@ use std::hint::black_box;
 
 // So many molecules are taken in turn, so that no branch is learnt by heart.
 const MOLECULES: usize = 64;
-
-#[derive(Clone, Copy)]
-struct Kind {
-    positions: usize,
-    // None: no list.
-    reads: Option<usize>,
-    annotated: bool,
-}
-
-// A molecule as a sequencer gives it: strands that mostly agree, few N, shallow depths; where annotated, A shows most C as T and
-// B most G as A; reads with some errors, half of them second of their pair.
-fn molecule(draw: &mut Draw, kind: Kind) -> Case {
-    let n = kind.positions;
-    let truth: Vec<u8> = (0..n).map(|_| draw.pick(b"ACGT")).collect();
-    let shown = |draw: &mut Draw, base: u8, from: u8, to: u8| match draw.below(100) {
-        0 => b'N',
-        1 => draw.pick(b"ACGT"),
-        _ if kind.annotated && base == from && !draw.chance(5) => to,
-        _ => base,
-    };
-    let strand = |draw: &mut Draw, annotation: u8, from: u8, to: u8| Strand {
-        present: true,
-        bases: truth.iter().map(|&base| shown(draw, base, from, to)).collect(),
-        quals: (0..n).map(|_| 20 + draw.below(60) as u8).collect(),
-        depths: (0..n).map(|_| 3 + draw.below(8) as u16).collect(),
-        errors: (0..n).map(|_| u16::from(draw.chance(20))).collect(),
-        annotation: if kind.annotated { annotation } else { 0 },
-        marks: truth.iter().map(|&base| u8::from(base == from)).collect(),
-        unconverted: (0..n).map(|_| draw.below(9) as u32).collect(),
-        converted: (0..n).map(|_| draw.below(9) as u32).collect(),
-    };
-    let (a, b) = (strand(draw, 1, b'C', b'T'), strand(draw, 2, b'G', b'A'));
-    let (mut reads, mut bytes) = (Vec::new(), Vec::new());
-    for read in 0..kind.reads.unwrap_or(0) {
-        let last = read % 2 == 1;
-        reads.push(Read { flags: if last { 0x91 } else { 0x41 }, offset: bytes.len(), length: n });
-        let own = if last { &b.bases } else { &a.bases };
-        bytes.extend(own.iter().map(|&base| if draw.chance(100) { draw.pick(b"ACGTN") } else { base }));
-    }
-    Case { a, b, listed: kind.reads.is_some(), reads, bytes, room: [n; 9] }
-}
 
 struct Prepared {
     case: Case,
@@ -65,7 +25,7 @@ struct Prepared {
 fn prepared(kind: Kind) -> Vec<Prepared> {
     let mut draw = Draw::new(kind.positions as u64);
     let of = |case: Case| Prepared {
-        lent: ours::reads(&case.reads),
+        lent: library::reads(&case.reads),
         a: rust::strand(&case.a),
         b: rust::strand(&case.b),
         reads: case.listed.then(|| rust::reads(&case)),
@@ -77,7 +37,7 @@ fn prepared(kind: Kind) -> Vec<Prepared> {
 fn run_ours(molecules: &[Prepared], out: &mut Outputs) {
     for molecule in molecules {
         let Prepared { case, lent, .. } = black_box(molecule);
-        black_box(ours::with_reads(case, lent, black_box(out)));
+        black_box(library::with_reads(case, lent, black_box(out)));
     }
 }
 
@@ -95,7 +55,7 @@ fn measure(kind: Kind) -> [f64; 2] {
     for molecule in &molecules {
         let mut must = out.clone();
         let answer = rust::told(&rust::duplex_consensus(&molecule.case), &mut must);
-        assert!(ours::duplex_consensus(&molecule.case, &mut out) == answer && out == must, "the two differ");
+        assert!(library::duplex_consensus(&molecule.case, &mut out) == answer && out == must, "the two differ");
     }
     let times = medians(|| run_ours(&molecules, &mut out), || run_rust(&molecules));
     times.map(|time| time / MOLECULES as f64)
@@ -116,6 +76,48 @@ fn ratios() {
         for positions in [150, 300] {
             let [ours, rust] = measure(Kind { positions, reads, annotated });
             println!("{:44} {ours:10.0} {rust:10.0} {:7.2}", format!("{positions} positions, {name}"), rust / ours);
+        }
+    }
+}
+
+// The calls below the record: two strands combined without a list, and a strand alone.
+fn parts() {
+    println!("{:44} {:>10} {:>10} {:>7}", "what a record is made of", "ours, ns", "Rust, ns", "ratio");
+    let tell = |name: String, times: [f64; 2]| {
+        let [ours, rust] = times.map(|time| time / MOLECULES as f64);
+        println!("{name:44} {ours:10.0} {rust:10.0} {:7.2}", rust / ours);
+    };
+    for (kind, annotated) in [("no annotation", false), ("annotated", true)] {
+        for positions in [150, 300] {
+            let molecules = prepared(Kind { positions, reads: None, annotated });
+            let mut out = Outputs::filled(&[positions; 9]);
+            let combined = medians(
+                || {
+                    for Prepared { case, .. } in &molecules {
+                        black_box(library::combine_strands(black_box(case), annotated, black_box(&mut out)));
+                    }
+                },
+                || {
+                    for molecule in &molecules {
+                        let Prepared { a, b, .. } = black_box(molecule);
+                        black_box(rust::combine_strands(a, b, positions));
+                    }
+                },
+            );
+            tell(format!("{positions} positions, combined, {kind}"), combined);
+            let single = medians(
+                || {
+                    for Prepared { case, .. } in &molecules {
+                        black_box(library::gated_single_strand(&black_box(case).a, black_box(&mut out)));
+                    }
+                },
+                || {
+                    for molecule in &molecules {
+                        black_box(DuplexConsensusCaller::gated_single_strand(&black_box(molecule).a));
+                    }
+                },
+            );
+            tell(format!("{positions} positions, a strand alone, {kind}"), single);
         }
     }
 }
@@ -213,7 +215,7 @@ fn reasons() {
                 },
                 || {
                     for (turn, molecule) in molecules.iter().enumerate() {
-                        let _ = black_box(ours::no_call_reason(black_box(&molecule.case), at(turn)));
+                        let _ = black_box(library::no_call_reason(black_box(&molecule.case), at(turn)));
                     }
                 },
             )
@@ -241,6 +243,7 @@ fn growth() {
 
 pub fn main() -> bool {
     ratios();
+    parts();
     from_bytes();
     reasons();
     growth();

@@ -1,7 +1,7 @@
 // The runs: inputs of many kinds, what each must give by the Rust or by the refusal table, and what ours gives.
 use super::case::{Answer, Case, Outputs, Strand};
 use super::draw::{Draw, LETTERS, MARKS, QUALITIES, ROWS};
-use super::{ours, rust, table};
+use super::{library, rust, table};
 use std::collections::BTreeMap;
 use std::panic::{AssertUnwindSafe, catch_unwind};
 
@@ -21,7 +21,7 @@ fn expected(case: &Case, out: &mut Outputs) -> Option<Answer> {
 
 fn said(case: &Case, out: &mut Outputs) -> Answer {
     out.fill(&case.room);
-    ours::duplex_consensus(case, out)
+    library::duplex_consensus(case, out)
 }
 
 fn differs(case: &Case) -> bool {
@@ -112,6 +112,29 @@ impl Run {
             self.told += 1;
             if self.told <= 5 {
                 tell(group, case);
+            }
+        } else if let Answer::Both(n) = answer {
+            self.combined(case, n);
+        }
+    }
+
+    // The calls below the record, on the strands of one that agrees: its outputs by the Rust, but the errors of listed reads, which the
+    // record counts and these calls leave 0.
+    fn combined(&mut self, case: &Case, n: usize) {
+        if case.listed {
+            self.must.errors[..n].fill(0);
+        }
+        let plain = case.a.annotation == 0 && case.b.annotation == 0;
+        for annotated in [true, false] {
+            if !annotated && !plain {
+                continue;
+            }
+            self.is.fill(&case.room);
+            let answer = library::combine_strands(case, annotated, &mut self.is);
+            self.count(if annotated { "combined, with annotations" } else { "combined, without" }, 1);
+            self.count(if annotated { "positions combined, with annotations" } else { "positions combined, without" }, n);
+            if answer != Answer::Both(n) || self.must != self.is {
+                self.wrong(&format!("combined, annotated {annotated}: {answer:?} of {case:?}"));
             }
         }
     }
@@ -211,7 +234,7 @@ impl Run {
                 },
                 Err,
             );
-            let is = ours::has_minimum_reads(record.len(), &first.depths, second, &list);
+            let is = library::has_minimum_reads(record.len(), &first.depths, second, &list);
             self.count(if must.is_ok() { "gates" } else { "gates refused" }, 1);
             if must != is {
                 self.wrong(&format!("gate of {list:?} over {:?} {second:?}: must be {must:?}, is {is:?}", first.depths));
@@ -236,7 +259,7 @@ impl Run {
                 },
                 Err,
             );
-            let is = ours::has_minimum_reads(positions, &ab, &ba, &list);
+            let is = library::has_minimum_reads(positions, &ab, &ba, &list);
             self.count(if must.is_ok() { "gates of other lengths" } else { "gates refused" }, 1);
             if must != is {
                 self.wrong(&format!("gate of {list:?} at {positions} over {ab:?} {ba:?}: must be {must:?}, is {is:?}"));
@@ -265,7 +288,7 @@ impl Run {
                 Some(row) => Answer::Refused(row),
                 None => rust::gated_single_strand(&case.a, &mut self.must),
             };
-            let is = ours::gated_single_strand(&case.a, &mut self.is);
+            let is = library::gated_single_strand(&case.a, &mut self.is);
             self.count(if must == is && matches!(is, Answer::Refused(_)) { "single strands refused" } else { "single strands" }, 1);
             if must != is || self.must != self.is {
                 self.wrong(&format!("single strand {:?}, outputs {:?}: must be {must:?}, is {is:?}", case.a, case.room));

@@ -9,14 +9,17 @@ mod table {
 mod draw {
     include!("draw.rs");
 }
-mod ours {
-    include!("ours.rs");
+mod library {
+    include!("library.rs");
 }
 mod rust {
     include!("rust.rs");
 }
 mod compare {
     include!("compare.rs");
+}
+mod molecules {
+    include!("molecules.rs");
 }
 mod timing {
     include!("../timing.rs");

@@ -48,6 +48,15 @@ pub fn duplex_consensus(case: &Case) -> Option<DuplexConsensusRead> {
     DuplexConsensusCaller::duplex_consensus(a.as_ref(), b.as_ref(), reads.as_deref())
 }
 
+// Two strands combined as duplex_consensus does it without a list: it gates a copy of each annotation.
+pub fn combine_strands(a: &VanillaConsensusRead, b: &VanillaConsensusRead, n: usize) -> (Vec<u8>, Vec<u8>, Vec<u16>) {
+    let evidence = |s: &VanillaConsensusRead| s.methylation.as_ref().map(|m| m.truncate(n));
+    match (evidence(a), evidence(b)) {
+        (None, None) => DuplexConsensusCaller::combine_strands::<false>(a, b, n, None, &mut None, &mut None),
+        (mut of_a, mut of_b) => DuplexConsensusCaller::combine_strands::<true>(a, b, n, None, &mut of_a, &mut of_b),
+    }
+}
+
 fn put<T: Copy>(out: &mut [T], written: &[T]) {
     out[..written.len()].copy_from_slice(written);
 }

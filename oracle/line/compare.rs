@@ -3,7 +3,7 @@ use super::draw::Draw;
 use super::encoding::{CAUSES, Molecule, causes, fields, fields_of, molecule, written};
 use super::listed::Input;
 use super::reference::{ANSWERS, answer, output};
-use super::{listed, named, ours, random};
+use super::{duplexline, listed, named, random};
 use std::collections::BTreeMap;
 use std::path::Path;
 use std::sync::atomic::{AtomicUsize, Ordering};
@@ -68,7 +68,7 @@ impl Tally {
         }
         self.count("inputs", input.group);
         self.count("answers", answer);
-        if ours::output(program, &input.bytes, pieces) != Ok(must) {
+        if duplexline::output(program, &input.bytes, pieces) != Ok(must) {
             self.count("different", input.group);
             self.differences.push(Difference { input, pieces });
         }
@@ -108,7 +108,7 @@ fn shrunk(bytes: &[u8], differs: impl Fn(&[u8]) -> bool) -> Vec<u8> {
 }
 
 fn tell(program: &Path, Difference { input, pieces }: &Difference) {
-    let ours = |bytes: &[u8]| ours::output(program, bytes, *pieces);
+    let ours = |bytes: &[u8]| duplexline::output(program, bytes, *pieces);
     let small = shrunk(&input.bytes, |bytes| ours(bytes) != Ok(output(bytes)));
     let hex: String = small.iter().map(|byte| format!("{byte:02x}")).collect();
     println!("DIFFERENT in {}, {} bytes handed over in {pieces} pieces: {hex}", input.group, small.len());
@@ -121,7 +121,7 @@ fn self_test(program: &Path) -> (usize, usize) {
     let changes: [fn(&mut Vec<u8>, usize); 3] = [|o, n| o[n / 2] ^= 1, |o, n| o.truncate(n - 1), |o, _| o.push(b'\n')];
     let (mut seen, mut changed) = (0, 0);
     for input in named::all() {
-        let (must, is) = (output(&input.bytes), ours::output(program, &input.bytes, 1));
+        let (must, is) = (output(&input.bytes), duplexline::output(program, &input.bytes, 1));
         for change in changes {
             let mut other = must.clone();
             change(&mut other, must.len());

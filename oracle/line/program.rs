@@ -1,7 +1,7 @@
 // Runs the program duplexline and a reference, whose values are the Rust's, on the same encoded molecules (document 01's
 // trays). With the words `compare SEED COUNT PROGRAM` it compares them; with `named DIRECTORY` it writes the named inputs there,
 // and what the reference says of them; with `reference` it reads inputs, each behind its length in four bytes, low byte first,
-// and writes what each must give in the same form.
+// and writes what each must give in the same form; with `bench PROGRAM` it measures.
 mod case {
     include!("../combine/case.rs");
 }
@@ -29,11 +29,17 @@ mod listed {
 mod random {
     include!("random.rs");
 }
-mod ours {
-    include!("ours.rs");
+mod duplexline {
+    include!("duplexline.rs");
 }
 mod compare {
     include!("compare.rs");
+}
+mod molecules {
+    include!("../combine/molecules.rs");
+}
+mod bench {
+    include!("bench.rs");
 }
 
 fn reference_of_many() -> std::io::Result<()> {
@@ -58,7 +64,8 @@ pub fn main() {
         ["compare", seed, count, program] => compare::main(seed.parse().unwrap(), count.parse().unwrap(), program.as_ref()),
         ["named", directory] => named::write(directory.as_ref()).is_ok(),
         ["reference"] => reference_of_many().is_ok(),
-        _ => panic!("compare SEED COUNT PROGRAM, named DIRECTORY, or reference"),
+        ["bench", program] => bench::main(program.as_ref()),
+        _ => panic!("compare SEED COUNT PROGRAM, named DIRECTORY, reference, or bench PROGRAM"),
     };
     std::process::exit(if well { 0 } else { 1 });
 }

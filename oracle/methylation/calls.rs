@@ -1,6 +1,6 @@
 // Each call: what refuses it by document 01's table, what the Rust makes of it, and what ours leaves.
 use super::inputs::{Case, Evidence, Simplex};
-use super::ours;
+use super::library_types;
 use super::rust;
 use super::table::first;
 use gedrashiw::duplex_caller::methylation_strand_bases_into;
@@ -215,24 +215,24 @@ impl Call {
     // Ours, on outputs that are filled already.
     pub fn by_ours(self, case: &Case, out: &mut Left) {
         let Case { bases, strands: [a, b], len, .. } = case;
-        let mode = ours::mode(case.mode);
+        let mode = library_types::mode(case.mode);
         let n = bases.len();
         out.answer = match self {
             Call::DuplexTags => ours_duplex_tags(case, out),
             Call::MmMl => {
                 let [mm, ml] = &mut out.bytes[..] else { unreachable!() };
-                said(build_mm_ml_tags_into(bases, &ours::annotation(a), mode, mm, ml), said_tags)
+                said(build_mm_ml_tags_into(bases, &library_types::annotation(a), mode, mm, ml), said_tags)
             }
             Call::Mm => {
                 let mm = |mm: Option<usize>| said_tags(mm.map(|mm| TagLengths { mm, ml: 0 }));
-                said(build_mm_tag_no_ml_into(bases, &ours::annotation(a), mode, &mut out.bytes[0]), mm)
+                said(build_mm_tag_no_ml_into(bases, &library_types::annotation(a), mode, &mut out.bytes[0]), mm)
             }
-            Call::Restore => said(restore_unconverted_bases(&mut out.bytes[0], &ours::annotation(a)), positions),
-            Call::StrandBases => said(methylation_strand_bases_into(&ours::strand(bases, a), &mut out.bytes[0]), positions),
-            Call::Gate => said(gate_to_informative_into(&mut ours::evidence(out)), positions),
-            Call::Truncate => said(ours::annotation(a).truncate_into(*len, &mut ours::evidence(out)), positions),
-            Call::Unconverted => said(ours::annotation(a).unconverted_counts_into(&mut out.shorts[0]), positions),
-            Call::Converted => said(ours::annotation(a).converted_counts_into(&mut out.shorts[0]), positions),
+            Call::Restore => said(restore_unconverted_bases(&mut out.bytes[0], &library_types::annotation(a)), positions),
+            Call::StrandBases => said(methylation_strand_bases_into(&library_types::strand(bases, a), &mut out.bytes[0]), positions),
+            Call::Gate => said(gate_to_informative_into(&mut library_types::evidence(out)), positions),
+            Call::Truncate => said(library_types::annotation(a).truncate_into(*len, &mut library_types::evidence(out)), positions),
+            Call::Unconverted => said(library_types::annotation(a).unconverted_counts_into(&mut out.shorts[0]), positions),
+            Call::Converted => said(library_types::annotation(a).converted_counts_into(&mut out.shorts[0]), positions),
             Call::Summed => said(summed_counts_into(n, &a.unconverted, &b.unconverted, &mut out.shorts[0]), positions),
         };
     }
@@ -273,10 +273,10 @@ pub fn ours_duplex_tags(case: &Case, out: &mut Left) -> Answer {
         b: CountsOut { unconverted: bu, converted: bc },
         both: CountsOut { unconverted: u, converted: c },
     };
-    let annotations = strands.each_ref().map(|strand| (strand.annotation != 0).then(|| ours::annotation(strand)));
+    let annotations = strands.each_ref().map(|strand| (strand.annotation != 0).then(|| library_types::annotation(strand)));
     let [a, b] = annotations.each_ref().map(Option::as_ref);
     let written = |n: DuplexTagLengths| Answer::Written([n.positions, n.a_mm, n.b_mm, n.mm, n.ml]);
-    said(duplex_methylation_tags_into(bases, a, b, ours::mode(*mode), &mut out), written)
+    said(duplex_methylation_tags_into(bases, a, b, library_types::mode(*mode), &mut out), written)
 }
 
 // annotate_simplex_methylation.
@@ -301,9 +301,9 @@ impl Simplex {
 
     pub fn by_ours(&self, out: &mut Left) {
         let Simplex { len, reads, bytes, reference, pattern, aligned, everywhere } = self;
-        let (lent, pattern) = (ours::reads(reads), ours::pattern(*pattern));
+        let (lent, pattern) = (library_types::reads(reads), library_types::pattern(*pattern));
         let reads = SourceReads { reads: &lent, bytes };
-        let evidence = &mut ours::evidence(out);
+        let evidence = &mut library_types::evidence(out);
         let annotated = annotate_simplex_methylation_into(*len, reads, reference, pattern, aligned, *everywhere, evidence);
         out.answer = said(annotated, positions);
     }

@@ -12,8 +12,8 @@ mod draw {
 mod inputs {
     include!("inputs.rs");
 }
-mod ours {
-    include!("ours.rs");
+mod library_types {
+    include!("library_types.rs");
 }
 mod rust {
     include!("rust.rs");

@@ -109,7 +109,14 @@ pub fn summed_counts(positions: usize, [a, b]: [&[u32]; 2]) -> Vec<i16> {
     unconverted
 }
 
-pub fn annotate_simplex_methylation(case: &Simplex) -> Arrays {
+// What annotate_simplex_methylation takes of reads and the reference, as the Rust has it.
+pub struct Aligned {
+    reads: Vec<SourceRead>,
+    aligned: Vec<Vec<bool>>,
+    reference: Vec<Option<u8>>,
+}
+
+pub fn aligned(case: &Simplex) -> Aligned {
     let read = |r: &super::case::Read| SourceRead {
         original_idx: 0,
         bases: case.bytes[r.offset..r.offset + r.length].to_vec(),
@@ -124,9 +131,19 @@ pub fn annotate_simplex_methylation(case: &Simplex) -> Arrays {
     let marks = |r: &super::case::Read| -> Vec<bool> {
         (r.offset..r.offset + r.length).map_while(|i| case.aligned.get(i)).map(|&mark| mark != 0).collect()
     };
-    let reads: Vec<SourceRead> = case.reads.iter().map(read).collect();
-    let aligned: Vec<Vec<bool>> = case.reads.iter().map(marks).collect();
-    // The byte 0 stands for no reference base.
-    let reference: Vec<Option<u8>> = case.reference.iter().map(|&base| (base != 0).then_some(base)).collect();
-    arrays(&methylation::annotate_simplex_methylation(case.len, &reads, &reference, pattern(case.pattern), &aligned, case.everywhere))
+    Aligned {
+        reads: case.reads.iter().map(read).collect(),
+        aligned: case.reads.iter().map(marks).collect(),
+        // The byte 0 stands for no reference base.
+        reference: case.reference.iter().map(|&base| (base != 0).then_some(base)).collect(),
+    }
+}
+
+pub fn annotated(case: &Simplex, given: &Aligned) -> MethylationAnnotation {
+    let Aligned { reads, aligned, reference } = given;
+    methylation::annotate_simplex_methylation(case.len, reads, reference, pattern(case.pattern), aligned, case.everywhere)
+}
+
+pub fn annotate_simplex_methylation(case: &Simplex) -> Arrays {
+    arrays(&annotated(case, &aligned(case)))
 }

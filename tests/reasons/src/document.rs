@@ -1,6 +1,11 @@
 //! Document 02's request 101, and what it takes from document 01, a second time and from their words: nothing of the library is used here.
 //! A reason is its number.
 
+/// The order of the refusal table's rows, which all references have from one file.
+mod order {
+    include!("../../../oracle/order.rs");
+}
+
 pub const OUTSIDE: u8 = 1;
 pub const SINGLE_STRAND: u8 = 2;
 pub const CALLED: u8 = 3;
@@ -110,11 +115,10 @@ impl Strand {
 /// Rows 7 and 8 over the strands that are there, then the record, then the position.
 pub fn reason(a: Option<&Strand>, b: Option<&Strand>, position: usize) -> Result<u8, u8> {
     let there = || [a, b].into_iter().flatten();
-    if there().any(|strand| strand.lengths().iter().any(|&n| n > MOST_POSITIONS)) {
-        return Err(7);
-    }
-    if there().any(|strand| strand.lengths().iter().any(|&n| n != strand.bases.len())) {
-        return Err(8);
+    let too_long = there().any(|strand| strand.lengths().iter().any(|&n| n > MOST_POSITIONS));
+    let ragged = there().any(|strand| strand.lengths().iter().any(|&n| n != strand.bases.len()));
+    if let Some(row) = order::first(&[(7, too_long), (8, ragged)]) {
+        return Err(row);
     }
     let shorter = there().map(|strand| strand.bases.len()).min().unwrap_or(0);
     let counts = |strand: Option<&Strand>| strand.is_some_and(|strand| strand.covered(shorter));

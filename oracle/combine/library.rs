@@ -53,6 +53,18 @@ pub fn with_reads(case: &Case, reads: &[SourceRead], out: &mut Outputs) -> Answe
     }
 }
 
+// Two strands combined, as a caller does who has decided that both are there: with their annotations, or of strands without.
+pub fn combine_strands(case: &Case, annotated: bool, out: &mut Outputs) -> Answer {
+    let (a, b) = (strand(&case.a), strand(&case.b));
+    let (mut written, mut first, mut second) = lent(out);
+    let combined = if annotated {
+        DuplexConsensusCaller::combine_strands_annotated_into(&a, &b, case.listed, &mut written, &mut first, &mut second)
+    } else {
+        DuplexConsensusCaller::combine_strands_into(&a, &b, case.listed, &mut written)
+    };
+    combined.map_or_else(|refusal| Answer::Refused(refusal.number()), Answer::Both)
+}
+
 // Why two strands that are there show N at a position.
 #[inline]
 pub fn no_call_reason(case: &Case, position: usize) -> Result<NoCallReason, Refusal> {
