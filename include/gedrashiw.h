@@ -11,7 +11,7 @@
  *     As bytes          combination, reasons, metrics and methylation tags over arrays of bytes, low byte first
  *
  * An array is a pointer and the number of its elements, in this order. The entries keep no pointer, allocate nothing and hold no
- * state, so that threads may call them side by side.
+ * state, so that threads may call them side by side. None takes more than GEDRASHIW_STACK_BYTES of stack: so it was measured, not proved.
  *
  * What the caller must see to, since no contract can: each pointer is valid for its number of elements, for reading, and outputs for
  * writing; it is aligned as its type asks; and no output overlaps an input or another output. With the number 0 a pointer is not
@@ -53,6 +53,7 @@ enum gedrashiw_refusal {
 
 #define GEDRASHIW_MAX_POSITIONS 1024
 #define GEDRASHIW_MAX_READS 1024
+#define GEDRASHIW_STACK_BYTES 65536
 
 /* The annotation of a strand, or its conversion pattern: there GEDRASHIW_NOT_ANNOTATED is refused as 13. So are numbers above 2. */
 enum gedrashiw_annotation {
@@ -616,8 +617,7 @@ struct gedrashiw_letters gedrashiw_bases(uint8_t pattern);
 uint8_t gedrashiw_is_cpg_context(const uint8_t *ref_seq, size_t ref_seq_len, size_t pos, uint8_t is_top_strand);
 
 /* ==== As bytes: combination, reasons, metrics and methylation tags where numbers of more than one byte are passed as bytes, low byte first,
- * whatever the host's own order. A length is a number of bytes, and bytes need no alignment. gedrashiw_metrics uses about 18 KB of stack,
- * gedrashiw_duplex_consensus about 58 KB, gedrashiw_methylation_tags about 35 KB, gedrashiw_no_call_reason about 5 KB. ==== */
+ * whatever the host's own order. A length is a number of bytes, and bytes need no alignment. ==== */
 
 /* The bytes that gedrashiw_metrics writes. */
 #define GEDRASHIW_METRICS_BYTES 40

@@ -9,6 +9,7 @@
 #include "reference.h"
 
 static struct block inputs[DUPLEX_INPUTS], outputs[OUTPUTS];
+static uint64_t nulls; /* which inputs and outputs were passed as a null pointer, a bit each */
 
 static const char *const output_names[OUTPUTS] = {"bases_out", "quals_out", "errors_out", "a_evidence_out", "b_evidence_out"};
 
@@ -35,11 +36,13 @@ static void run_at(const char *name, const struct duplex_given *g, const struct 
         struct array *in = duplex_input(&placed, k);
         block_input(&inputs[k], in->at, in->len, place);
         in->at = block_passed(&inputs[k], place);
+        nulls |= (uint64_t)block_is_null(&inputs[k], place) << k;
     }
     for (int k = 0; k < OUTPUTS; k++) {
         block_output(&outputs[k], g->room[k], place);
         memcpy(block_noted(&outputs[k]), w->out[k], w->written[k]);
         out[k] = block_passed(&outputs[k], place);
+        nulls |= (uint64_t)block_is_null(&outputs[k], place) << (DUPLEX_INPUTS + k);
     }
 
     struct gedrashiw_duplex_record r = duplex_call(&placed, out);

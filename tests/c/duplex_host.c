@@ -832,6 +832,8 @@ int main(int words, char **word)
     output_lengths();
     several_faults();
     not_looked_at();
+    nulls_were_passed("gedrashiw_duplex_consensus", DUPLEX_INPUTS + OUTPUTS, nulls);
+    tell_nulls(2 * DUPLEX_INPUTS - 1 + OUTPUTS); /* the reason takes the same, but no run */
     printf("gedrashiw_duplex_consensus, gedrashiw_no_call_reason: %ld checks, %ld failures\n", checks, failures);
     return failures == 0 ? 0 : 1;
 }

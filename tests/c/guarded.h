@@ -111,6 +111,23 @@ static inline uint8_t *block_passed(const struct block *b, int place)
     return place == EMPTY_IS_NULL && b->len == 0 ? NULL : b->at;
 }
 
+/* What is passed for it is a null pointer. */
+static inline int block_is_null(const struct block *b, int place)
+{
+    return block_passed(b, place) == NULL;
+}
+
+/* Of so many arrays, each a bit, all were passed as a null pointer once; how many, which tests/c/run adds up over all hosts. */
+static inline void nulls_were_passed(const char *name, int arrays, uint64_t nulls)
+{
+    check(name, nulls == (UINT64_C(1) << arrays) - 1, "an array was never passed as a null pointer");
+}
+
+static inline void tell_nulls(int arrays)
+{
+    printf("null pointers for %d arrays\n", arrays);
+}
+
 static uint32_t seed = 20240607;
 static const uint8_t *drawn, *drawn_end; /* where a fuzzer has given bytes, these come first */
 

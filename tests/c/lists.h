@@ -84,11 +84,35 @@ static inline void expect(int k, int width, const struct list *l)
     put_list(block_noted(lent_outputs[k]), width, l);
 }
 
+/* Of each entry: which rows of the refusal table it was seen to answer with, how many arrays it has, and which of them were passed as a null
+ * pointer, a bit each. */
+struct seen {
+    const char *name;
+    long of[14];
+    int arrays;
+    uint64_t nulls;
+};
+
+static struct seen all_seen[64];
+
+static inline struct seen *seen_of(const char *name)
+{
+    struct seen *s = all_seen;
+    while (s->name != NULL && strcmp(s->name, name) != 0)
+        s++;
+    s->name = name;
+    return s;
+}
+
 /* After a call: every array, and what lies around it, is as it was or as is expected. */
 static inline void settle(const char *name)
 {
-    for (int k = 0; k < lent_count; k++)
+    struct seen *s = seen_of(name);
+    s->arrays = lent_count;
+    for (int k = 0; k < lent_count; k++) {
         check(name, block_as_noted(&lent_blocks[k]), "an array is not as expected");
+        s->nulls |= (uint64_t)block_is_null(&lent_blocks[k], place) << k;
+    }
     lent_count = 0;
 }
 
@@ -105,20 +129,9 @@ static inline void same(const char *name, const char *what, uint64_t got, uint64
 
 /* ---- rows */
 
-struct seen {
-    const char *name;
-    long of[14];
-};
-
-static struct seen all_seen[64];
-
 static inline void saw(const char *name, uint8_t refused)
 {
-    struct seen *s = all_seen;
-    while (s->name != NULL && strcmp(s->name, name) != 0)
-        s++;
-    s->name = name;
-    s->of[refused]++;
+    seen_of(name)->of[refused]++;
 }
 
 /* An entry was expected to answer with each of its rows, and without refusal, and with no other row. */
@@ -134,6 +147,17 @@ static inline void rows(const char *name, const char *of)
                     failures++;
                     printf("%s: row %d was expected %ld times\n", name, row, s->of[row]);
                 }
+}
+
+/* Each array of each entry was passed as a null pointer with the number 0. */
+static inline void all_nulls(void)
+{
+    int arrays = 0;
+    for (struct seen *s = all_seen; s->name != NULL; s++) {
+        nulls_were_passed(s->name, s->arrays, s->nulls);
+        arrays += s->arrays;
+    }
+    tell_nulls(arrays);
 }
 
 /* ---- by chance */

@@ -6,6 +6,7 @@
 #include "reference.h"
 
 static struct block blocks[METRICS_INPUTS], output;
+static uint64_t nulls; /* which arrays were passed as a null pointer, a bit each */
 
 /* The bytes of the case in hand; a struct metrics_given has parts of them. */
 #define MOST 1100
@@ -26,8 +27,10 @@ static void run_at(const char *name, const struct metrics_given *g, const struct
     for (int k = 0; k < METRICS_INPUTS; k++) {
         block_input(&blocks[k], g->in[k].at, g->in[k].len, place);
         placed.in[k].at = block_passed(&blocks[k], place);
+        nulls |= (uint64_t)block_is_null(&blocks[k], place) << k;
     }
     block_output(&output, g->room, place);
+    nulls |= (uint64_t)block_is_null(&output, place) << METRICS_INPUTS;
     for (int k = 0; w->refused == 0 && k < 10; k++)
         put_number(block_noted(&output) + 4 * k, w->words[k], 4);
 
@@ -287,6 +290,8 @@ int main(int words, char **word)
     computed();
     refusals();
     several();
+    nulls_were_passed("gedrashiw_metrics", METRICS_INPUTS + 1, nulls);
+    tell_nulls(METRICS_INPUTS + 1);
     printf("gedrashiw_metrics: %ld checks, %ld failures\n", checks, failures);
     return failures == 0 ? 0 : 1;
 }

@@ -143,8 +143,8 @@ static struct gedrashiw_mi_part parts[MOST_NUMBERS];
 static void some_parts(size_t n, struct list *text)
 {
     static const char letters[] = "AB/A/B/AB/x";
-    text->n = 40;
-    for (size_t i = 0; i < text->n; i++)
+    text->n = once_in(40) ? 0 : 40; /* without text every part that is there leaves it */
+    for (size_t i = 0; i < 40; i++)
         text->v[i] = (uint8_t)letters[chance() % (sizeof letters - 1)];
     memcpy(text->v + 20, (const uint32_t[]){'m', '/', 'A', 'm', '/', 'B', '/', 'A'}, 8 * sizeof *text->v);
     for (size_t i = 0; i < n; i++) {
@@ -378,9 +378,59 @@ static void try_rate(void)
     same("rate_bits", "rate", gedrashiw_rate_bits(e, d), rate(e, d));
 }
 
+/* The entries over one number of 16 bits, or over its two bytes as bases. */
+static void of_number(uint32_t n)
+{
+    same("cap_quality", "score", gedrashiw_cap_quality((uint16_t)n), n < 2 ? 2 : n > 93 ? 93 : n);
+    same("clamp_per_base", "depth", gedrashiw_clamp_per_base_to_fgbio_short((uint16_t)n), capped(n));
+    same("is_paired", "flags", gedrashiw_is_paired((uint16_t)n), n & 1);
+    same("is_paired_r1", "flags", gedrashiw_is_paired_r1((uint16_t)n), (n & 0x41) == 0x41);
+    same("is_paired_r2", "flags", gedrashiw_is_paired_r2((uint16_t)n), (n & 0x81) == 0x81);
+    same("from_read_flags", "flags", gedrashiw_from_read_flags((uint16_t)n), n & 0x80 ? GEDRASHIW_G_TO_A : GEDRASHIW_C_TO_T);
+    uint8_t x = (uint8_t)n, y = (uint8_t)(n >> 8);
+    same("is_error", "bases", gedrashiw_is_error(x, y), x != y && x != 'N' && y != 'N');
+    uint8_t ct = x >= 'a' && x <= 'z' ? (uint8_t)(x - 32) : x, ga = y >= 'a' && y <= 'z' ? (uint8_t)(y - 32) : y;
+    int c = ga == 'C' && (ct == 'C' || ct == 'T'), g = !c && ct == 'G' && (ga == 'G' || ga == 'A');
+    struct gedrashiw_call r = gedrashiw_molecule_call(x, y);
+    same("molecule_call", "pattern", r.pattern, c ? GEDRASHIW_C_TO_T : g ? GEDRASHIW_G_TO_A : 0);
+    same("molecule_call", "call", r.call, c ? x : g ? y : 0);
+    same("molecule_call", "confirmed", r.confirmed, c ? 'C' : g ? 'G' : 0);
+}
+
+static void of_sum(int32_t sum)
+{
+    same("clamp_combined_error", "sum", gedrashiw_clamp_combined_error_to_fgbio_short(sum), (uint64_t)(sum < 0 ? 0 : sum > CAP ? CAP : sum));
+}
+
+/* The entries over a choice by its number. */
+static void of_choice(uint8_t k)
+{
+    static const uint32_t flags[] = {4, 77, 141};
+    struct gedrashiw_letters r = gedrashiw_bases(k);
+    int wrong = k == 0 || k > 2;
+    same("bases", "refused", r.refused, wrong ? 13 : 0);
+    same("bases", "reference", r.reference, wrong ? 0 : (uint8_t)"CG"[k - 1]);
+    same("bases", "unconverted", r.unconverted, wrong ? 0 : (uint8_t)"CG"[k - 1]);
+    same("bases", "converted", r.converted, wrong ? 0 : (uint8_t)"TA"[k - 1]);
+    number_is("is_enabled", gedrashiw_is_enabled(k), k > 2 ? 13 : 0, k != 0);
+    number_is("written_flags", gedrashiw_written_flags(k), k > 2 ? 13 : 0, k > 2 ? 0 : flags[k]);
+}
+
+static const int32_t limits[] = {INT32_MIN, -40000, -1, 0, 1, 32766, 32767, 32768, 65535, 65536, 100000, INT32_MAX};
+enum { LIMITS = sizeof limits / sizeof *limits };
+
+static void try_numbers(void)
+{
+    of_number(chance() % 65536);
+    int32_t sum = once_in(4) ? (int32_t)(chance() % 65536) - 16384 : limits[chance() % LIMITS];
+    of_sum(once_in(4) ? (int32_t)(chance() << 8) : sum);
+    of_choice(some_choice());
+}
+
 /* Each entry once, on a case by chance. */
 static void one_round(void)
 {
+    try_numbers(); /* first, while a fuzzer's bytes last */
     try_thresholds();
     try_read_gate();
     try_consensus_gate();
@@ -394,45 +444,20 @@ static void one_round(void)
 }
 
 #ifndef FUZZED /* by tests/fuzz */
-static void bytes_of_all_kinds(void)
+static void numbers_of_all_kinds(void)
 {
-    for (uint32_t n = 0; n < 65536; n++) {
-        same("cap_quality", "score", gedrashiw_cap_quality((uint16_t)n), n < 2 ? 2 : n > 93 ? 93 : n);
-        same("clamp_per_base", "depth", gedrashiw_clamp_per_base_to_fgbio_short((uint16_t)n), capped(n));
-        same("is_paired", "flags", gedrashiw_is_paired((uint16_t)n), n & 1);
-        same("is_paired_r1", "flags", gedrashiw_is_paired_r1((uint16_t)n), (n & 0x41) == 0x41);
-        same("is_paired_r2", "flags", gedrashiw_is_paired_r2((uint16_t)n), (n & 0x81) == 0x81);
-        same("from_read_flags", "flags", gedrashiw_from_read_flags((uint16_t)n), n & 0x80 ? GEDRASHIW_G_TO_A : GEDRASHIW_C_TO_T);
-        uint8_t x = (uint8_t)n, y = (uint8_t)(n >> 8);
-        same("is_error", "bases", gedrashiw_is_error(x, y), x != y && x != 'N' && y != 'N');
-        uint8_t ct = x >= 'a' && x <= 'z' ? (uint8_t)(x - 32) : x, ga = y >= 'a' && y <= 'z' ? (uint8_t)(y - 32) : y;
-        int c = ga == 'C' && (ct == 'C' || ct == 'T'), g = !c && ct == 'G' && (ga == 'G' || ga == 'A');
-        struct gedrashiw_call r = gedrashiw_molecule_call(x, y);
-        same("molecule_call", "pattern", r.pattern, c ? GEDRASHIW_C_TO_T : g ? GEDRASHIW_G_TO_A : 0);
-        same("molecule_call", "call", r.call, c ? x : g ? y : 0);
-        same("molecule_call", "confirmed", r.confirmed, c ? 'C' : g ? 'G' : 0);
-    }
-    static const int32_t sums[] = {INT32_MIN, -40000, -1, 0, 1, 32766, 32767, 32768, 65535, 65536, 100000, INT32_MAX};
-    for (size_t k = 0; k < sizeof sums / sizeof *sums; k++)
-        same("clamp_combined_error", "sum", gedrashiw_clamp_combined_error_to_fgbio_short(sums[k]),
-             (uint64_t)(sums[k] < 0 ? 0 : sums[k] > CAP ? CAP : sums[k]));
-    for (int k = 0; k < 256; k++) {
-        struct gedrashiw_letters r = gedrashiw_bases((uint8_t)k);
-        int wrong = k == 0 || k > 2;
-        same("bases", "refused", r.refused, wrong ? 13 : 0);
-        same("bases", "reference", r.reference, wrong ? 0 : (uint8_t)"CG"[k - 1]);
-        same("bases", "unconverted", r.unconverted, wrong ? 0 : (uint8_t)"CG"[k - 1]);
-        same("bases", "converted", r.converted, wrong ? 0 : (uint8_t)"TA"[k - 1]);
-        number_is("is_enabled", gedrashiw_is_enabled((uint8_t)k), k > 2 ? 13 : 0, k != 0);
-        static const uint32_t flags[] = {4, 77, 141};
-        number_is("written_flags", gedrashiw_written_flags((uint8_t)k), k > 2 ? 13 : 0, k > 2 ? 0 : flags[k]);
-    }
+    for (uint32_t n = 0; n < 65536; n++)
+        of_number(n);
+    for (int k = 0; k < LIMITS; k++)
+        of_sum(limits[k]);
+    for (int k = 0; k < 256; k++)
+        of_choice((uint8_t)k);
 }
 
 int main(void)
 {
     make_lent_blocks();
-    bytes_of_all_kinds();
+    numbers_of_all_kinds();
     same("rate_bits", "2 of 12", gedrashiw_rate_bits(2, 12), 0x3e2aaaab);
     for (int k = 0; k < 4000; k++)
         one_round();
@@ -451,6 +476,9 @@ int main(void)
     rows("combined_depths", "7 12");
     rows("depth_range", "7");
     rows("write_consensus_read_name", "12");
+    rows("is_enabled", "13");
+    rows("written_flags", "13");
+    all_nulls();
     printf("the typed entries over reads, gates, depths and metrics: %ld checks, %ld failures\n", checks, failures);
     return failures != 0;
 }

@@ -410,6 +410,7 @@ int main(void)
         check("no_call_reason_typed", reasons[k] > 0, "a reason did not occur");
     rows("padded", "13 7 8 11 12");
     rows("padded_default", "13 7 8 11 12");
+    all_nulls();
     printf("the typed entries over strands: %ld checks, %ld failures\n", checks, failures);
     return failures != 0;
 }

@@ -507,6 +507,7 @@ int main(void)
     rows("build_mm_tag_no_ml", "13 7 8 12");
     rows("duplex_methylation_tags", "13 7 8 12");
     rows("methylation_tags", "13 7 8 12");
+    all_nulls();
     printf("the entries over evidence and tags: %ld checks, %ld failures\n", checks, failures);
     return failures != 0;
 }

@@ -1,6 +1,6 @@
-/* Fuzzes gedrashiw_duplex_consensus, and gedrashiw_no_call_reason on the same strands. The head of an input: what is present, annotated and listed, and the patterns; the
- * positions of each strand, the number of reads and the bases of their longest; a byte of the run to change, and how; a change of
- * each array's length, outputs counted from what is written; and the side at which arrays lie in the second call. */
+/* Fuzzes gedrashiw_duplex_consensus, and gedrashiw_no_call_reason on the same strands. The head of an input: what is present, annotated and
+ * listed, and the patterns; the positions of each strand, the number of reads and the bases of their longest; a byte of the run to change,
+ * and how; a change of each array's length, outputs counted from what is written; and where arrays lie in the second call. */
 #define _DEFAULT_SOURCE
 #include "fuzz.h"
 
@@ -51,25 +51,25 @@ static void reasons_are_the_reference_s(const struct duplex_given *g)
     }
 }
 
-/* The call again, with its arrays between unreadable pages. */
-static void again(const struct duplex_given *g, int at_end, struct gedrashiw_duplex_record r, uint8_t *const *out)
+/* The call again, with its arrays between unreadable pages, and in one place a null pointer for each that is empty. */
+static void again(const struct duplex_given *g, int place, struct gedrashiw_duplex_record r, uint8_t *const *out)
 {
     struct duplex_given placed = *g;
     uint8_t *into[OUTPUTS];
     for (int k = 0; k < DUPLEX_INPUTS; k++) {
         struct array *in = duplex_input(&placed, k);
-        block_input(&inputs[k], in->at, in->len, at_end);
-        in->at = inputs[k].at;
+        block_input(&inputs[k], in->at, in->len, place);
+        in->at = block_passed(&inputs[k], place);
     }
     for (int k = 0; k < OUTPUTS; k++) {
-        block_output(&outputs[k], g->room[k], at_end);
-        into[k] = outputs[k].at;
+        block_output(&outputs[k], g->room[k], place);
+        into[k] = block_passed(&outputs[k], place);
     }
     struct gedrashiw_duplex_record q = duplex_call(&placed, into);
     demand(q.refused == r.refused && q.kind == r.kind && q.positions == r.positions, "the same answer twice");
     reasons_are_the_reference_s(&placed);
     for (int k = 0; k < OUTPUTS; k++)
-        demand(same_bytes(into[k], out[k], g->room[k]), "the same outputs twice");
+        demand(same_bytes(outputs[k].at, out[k], g->room[k]), "the same outputs twice");
     for (int k = 0; k < DUPLEX_INPUTS; k++)
         demand(block_as_noted(&inputs[k]), "inputs as they were");
 }
@@ -114,7 +114,7 @@ int LLVMFuzzerTestOneInput(const uint8_t *bytes, size_t size)
     uint8_t flip = take(&s);
     for (int k = 0; k < DUPLEX_INPUTS + OUTPUTS; k++)
         change[k] = take(&s);
-    int at_end = take(&s) % 2;
+    int where = take(&s) % PLACES;
     start_data(&s);
     for (int k = 0; k < 2 * ARRAYS; k++) {
         struct array *array = duplex_input(&g, k);
@@ -132,7 +132,7 @@ int LLVMFuzzerTestOneInput(const uint8_t *bytes, size_t size)
 
     struct gedrashiw_duplex_record r = duplex_call(&g, out);
     plausible(&g, r, out);
-    again(&g, at_end, r, out);
+    again(&g, where, r, out);
     reasons_are_the_reference_s(&g);
 
     duplex_expected(&g, &w);

@@ -1,5 +1,5 @@
 /* Fuzzes gedrashiw_metrics. The head of an input: whether there is a second strand, the positions of the strands and of the record,
- * the output's length, a change of each array's length, and the side at which arrays lie in the second call. */
+ * the output's length, a change of each array's length, and where arrays lie in the second call. */
 #define _DEFAULT_SOURCE
 #include "fuzz.h"
 
@@ -16,16 +16,16 @@ static void set_up(void)
     output = block_new(256);
 }
 
-/* The call again, with its arrays between unreadable pages. */
-static void again(const struct metrics_given *g, int at_end, uint8_t answer, const uint8_t *out)
+/* The call again, with its arrays between unreadable pages, and in one place a null pointer for each that is empty. */
+static void again(const struct metrics_given *g, int place, uint8_t answer, const uint8_t *out)
 {
     struct metrics_given placed = *g;
     for (int k = 0; k < METRICS_INPUTS; k++) {
-        block_input(&blocks[k], g->in[k].at, g->in[k].len, at_end);
-        placed.in[k].at = blocks[k].at;
+        block_input(&blocks[k], g->in[k].at, g->in[k].len, place);
+        placed.in[k].at = block_passed(&blocks[k], place);
     }
-    block_output(&output, g->room, at_end);
-    demand(metrics_call(&placed, output.at) == answer, "the same answer twice");
+    block_output(&output, g->room, place);
+    demand(metrics_call(&placed, block_passed(&output, place)) == answer, "the same answer twice");
     demand(same_bytes(output.at, out, g->room), "the same output twice");
     for (int k = 0; k < METRICS_INPUTS; k++)
         demand(block_as_noted(&blocks[k]), "inputs as they were");
@@ -44,7 +44,7 @@ int LLVMFuzzerTestOneInput(const uint8_t *bytes, size_t size)
     g.room = take(&s);
     for (int k = 0; k < METRICS_INPUTS; k++)
         g.in[k].len = changed(positions[k] * (k == RECORD_BASES ? 1 : 2), take(&s));
-    int at_end = take(&s) % 2;
+    int place = take(&s) % PLACES;
     start_data(&s);
     uint8_t *in[METRICS_INPUTS], *out = exactly_patterned(g.room);
     for (int k = 0; k < METRICS_INPUTS; k++)
@@ -53,7 +53,7 @@ int LLVMFuzzerTestOneInput(const uint8_t *bytes, size_t size)
     uint8_t answer = metrics_call(&g, out);
     demand(answer == 0 || answer == 13 || answer == 7 || answer == 8 || answer == 12, "0, 13, 7, 8 or 12");
     demand(untouched(out, answer == 0 ? GEDRASHIW_METRICS_BYTES : 0, g.room), "the rest of the output as it was");
-    again(&g, at_end, answer, out);
+    again(&g, place, answer, out);
 
     struct metrics_wanted w = metrics_expected(&g);
     demand(answer == w.refused, "the reference's answer");
