@@ -1,11 +1,12 @@
 -- The claims about a record's positions.
 --     kind_again              what the combination made is what the answer goes by
+--     own_ab, own_ba          a record of one strand is as long as that strand
 --     n_exactly_when_a_reason, elsewhere, worked      the claims
 -- Assumes nothing.
 use mathlib.Core.Path.{◌≡◌, refl, sym, ap, ◌∙◌}
 use Rattle.std.proofs.Common.{Option, Some, None, Result, Ok}
 use mathlib.Core.Logic.{◌↔◌}
-use mathlib.Core.Bool.{true, false}
+use mathlib.Core.Bool.{Bool, true, false, cond}
 use mathlib.Core.List.{List}
 use Prim.Native.Nat.{ℕ, ◌<◌}
 use lib.Dec.{eqb}
@@ -21,9 +22,9 @@ use Rattle.dna.specs.Dna.{letter_n, upper, same_letter}
 use Rattle.duplex_molecule.specs.Molecule.{ct_input}
 use Rattle.duplex_arrays.specs.Positions.{position_of, combined_bases}
 use Rattle.duplex_outputs.specs.Outputs.{RecordArrays}
-use Rattle.duplex_kind.specs.Kind.{Strand, strand_faults, kind_of, record_kind}
+use Rattle.duplex_kind.specs.Kind.{Strand, strand_faults, covered, record_length, kind_of, record_kind}
 use Rattle.duplex_kind.specs.declared.DuplexConsensus.{DuplexConsensus}
-use Rattle.duplex_kind.specs.declared.DuplexConsensus.TheVariants.{Both}
+use Rattle.duplex_kind.specs.declared.DuplexConsensus.TheVariants.{Ab, Ba, Both}
 use Rattle.duplex_kind.proofs.Kind.{taken}
 use Rattle.duplex_record.specs.Record.{record_arrays, duplex_faults, duplex_refused}
 use Rattle.duplex_reason.specs.Reason.{called_by, holds, reason_at}
@@ -52,6 +53,19 @@ module _ (a b : Strand) (before now : RecordArrays) {kind : Option DuplexConsens
   answered : (i : ℕ) → reason_of a b i ≡ Ok (reason_in kind (shown_at a i) (shown_at b i) i)
   answered i = ap (λ (k : Result (Option DuplexConsensus) Refusal). reason_told k (shown_at a i) (shown_at b i) i) kind_again
 
+-- A record of one strand, by which of the strands count.
+own_ab : (p q : Bool) (k x y : ℕ) {n : ℕ} → cond p (cond q (Some (Both k)) (Some (Ab x))) (cond q (Some (Ba y)) None) ≡ Some (Ab n) → n ≡ x
+own_ab true true k x y e = absurd cc
+own_ab true false k x y e = cc
+own_ab false true k x y e = absurd cc
+own_ab false false k x y e = absurd cc
+
+own_ba : (p q : Bool) (k x y : ℕ) {n : ℕ} → cond p (cond q (Some (Both k)) (Some (Ab x))) (cond q (Some (Ba y)) None) ≡ Some (Ba n) → n ≡ y
+own_ba true true k x y e = absurd cc
+own_ba true false k x y e = absurd cc
+own_ba false true k x y e = cc
+own_ba false false k x y e = absurd cc
+
 pub elsewhere : Elsewhere
 elsewhere = record {
   past_both = λ a b before now n i made h. answered a b before now made i ∙ rw (le-ltb i n h);
@@ -60,6 +74,8 @@ elsewhere = record {
   none = λ a b before now i made. answered a b before now made i;
   in_ab = λ a b before now n i made h. answered a b before now made i ∙ rw (lt-ltb i n h);
   in_ba = λ a b before now n i made h. answered a b before now made i ∙ rw (lt-ltb i n h);
+  own_ab = λ a b before now n made. own_ab (covered (record_length a b) a) (covered (record_length a b) b) _ _ _ (not_refused a b before now made).1;
+  own_ba = λ a b before now n made. own_ba (covered (record_length a b) a) (covered (record_length a b) b) _ _ _ (not_refused a b before now made).1;
 }
 
 module _ (a b : Strand) (before now : RecordArrays) (n i : ℕ) (made : Made a b before now (Some (Both n))) (h : i < n) where

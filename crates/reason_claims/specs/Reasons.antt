@@ -1,5 +1,5 @@
 -- Request 101 of document 02: what the answer at a position says of the record and of the strands. Proved in proofs/.
-use Rattle.std.specs.Prelude.{Option, None, Some, Result, Ok, Err, ◌≡◌, ◌↔◌, Bool, true, false, not, List, ◌∷◌, ◌++◌, ℕ, ◌≤◌, ◌<◌, get_or}
+use Rattle.std.specs.Prelude.{Option, None, Some, Result, Ok, Err, ◌≡◌, ◌↔◌, Bool, true, false, not, List, ◌∷◌, ◌++◌, ℕ, ◌≤◌, ◌<◌, length, get_or}
 use Rattle.lists.specs.Every.{every}
 use Rattle.refusals.specs.declared.Refusal.{Refusal}
 use Rattle.dna.specs.Dna.{letter_a, letter_c, letter_g, letter_n, letter_t, lower_n}
@@ -39,8 +39,8 @@ NExactlyWhenAReason =
     → i < n
     → (get_or now.bases i 0 ≡ letter_n ↔ tells_reason (reason_of a b i) ≡ true) × ((get_or now.bases i 0 ≡ letter_n → ⊥) ↔ reason_of a b i ≡ Ok Called)
 
--- Every position past a record is outside, and every position where there is none; within a record of one strand, which is as long as
--- that strand, each is "single strand".
+-- Every position past a record is outside, and every position where there is none; within a record of one strand each is "single
+-- strand". Such a record is as long as its strand, whose own length it has, however long the other is.
 pub record Elsewhere : Type 0 where
   pub past_both : (a b : Strand) (before now : RecordArrays) (n i : ℕ) → Made a b before now (Some (Both n)) → n ≤ i → reason_of a b i ≡ Ok Outside
   pub past_ab : (a b : Strand) (before now : RecordArrays) (n i : ℕ) → Made a b before now (Some (Ab n)) → n ≤ i → reason_of a b i ≡ Ok Outside
@@ -48,6 +48,8 @@ pub record Elsewhere : Type 0 where
   pub none : (a b : Strand) (before now : RecordArrays) (i : ℕ) → Made a b before now None → reason_of a b i ≡ Ok Outside
   pub in_ab : (a b : Strand) (before now : RecordArrays) (n i : ℕ) → Made a b before now (Some (Ab n)) → i < n → reason_of a b i ≡ Ok SingleStrand
   pub in_ba : (a b : Strand) (before now : RecordArrays) (n i : ℕ) → Made a b before now (Some (Ba n)) → i < n → reason_of a b i ≡ Ok SingleStrand
+  pub own_ab : (a b : Strand) (before now : RecordArrays) (n : ℕ) → Made a b before now (Some (Ab n)) → n ≡ length a.arrays.bases
+  pub own_ba : (a b : Strand) (before now : RecordArrays) (n : ℕ) → Made a b before now (Some (Ba n)) → n ≡ length b.arrays.bases
 
 -- The answer is the first of the seven conditions, in the paper's order, that holds; and "called" exactly where none does.
 pub record FirstThatHolds : Type 0 where
