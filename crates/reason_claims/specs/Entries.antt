@@ -33,7 +33,9 @@ Says reply (Err row) = (reply.refused ≡ number_of row) × (reply.reason ≡ 0)
 Says reply (Ok reason) = (reply.refused ≡ 0) × (named reply.reason ≡ Some reason)
 
 -- An entry's reply, by its contract, says what the call answers on the strands that it is given: `gedrashiw_no_call_reason` on those that
--- bytes stand for, `gedrashiw_no_call_reason_typed` on those that are numbers already. 13, which the call does not have, comes first.
+-- bytes stand for, `gedrashiw_no_call_reason_typed` on those that are numbers already. `wrong` is that a pattern or an annotation stands for
+-- nothing: there, and at a byte count that fits no number, the reply is 13, which the call does not have. (The archive's exports have
+-- these contracts, word for word.)
 pub record SameAnswer : Type 0 where
   pub from_bytes :
       (wrong : Bool) (a b : StrandBytes) (i : ℕ) (reply : Reason) (answer : Result NoCallReason Refusal)
