@@ -1,7 +1,7 @@
--- The refusal table of document 01, and the order of its rows in every call.
+-- The refusal table of documents 01 and 02, and the order of its rows in every call.
 use Rattle.std.specs.Prelude.{ℕ, ◌≤◌, Bool, false, cond, not, ◌||◌, Option, Some, None, List, [], ◌∷◌, ◌++◌, eqb, ltb, length}
 use Rattle.refusals.specs.declared.Refusal.{Refusal}
-use Rattle.refusals.specs.declared.Refusal.TheVariants.{Broken, NoThresholds, TooManyThresholds, XyAboveTotal, YxAboveXy, TooLong, Ragged, TooManyReads, PartOutside, BelowLength, OutputTooShort, NoMi, NoStrand}
+use Rattle.refusals.specs.declared.Refusal.TheVariants.{Broken, NoThresholds, TooManyThresholds, XyAboveTotal, YxAboveXy, CeilingOutside, TooLong, Ragged, TooManyReads, PartOutside, BelowLength, OutputTooShort, NoMi, NoStrand}
 
 -- A row of the table is a value of the enum of src/lib.rt. It has no others, so that a condition cannot have a row which the order
 -- leaves out.
@@ -20,6 +20,7 @@ number_of BelowLength = 11
 number_of OutputTooShort = 12
 number_of NoMi = 5
 number_of NoStrand = 6
+number_of CeilingOutside = 14
 
 -- Which row it is, as a number: the one that it answers. A row that answers a number at a second place of the order needs another
 -- one here.
@@ -35,8 +36,8 @@ infix 20 ◌if◌
 abbrev pub ◌if◌ : Refusal → Bool → Fault
 ◌if◌ row met = record { row = row; met = met }
 
--- The rows in the order in which a call tests them, as far as they apply: the tray and the thresholds before all others, the
--- partition's own last. A new row is a line of the enum, one of its number, and one here.
+-- The rows in the order in which a call tests them, as far as they apply: the tray, the thresholds and the ceiling before all others,
+-- the partition's own last. A new row is a line of the enum, one of its number, and one here.
 abbrev pub order : List Refusal
 order =
     Broken  -- a broken tray
@@ -44,6 +45,7 @@ order =
     ∷ TooManyThresholds  -- more than 3 thresholds
     ∷ XyAboveTotal  -- second threshold above first
     ∷ YxAboveXy  -- third threshold above second
+    ∷ CeilingOutside  -- the ceiling is outside 3 to 93
     ∷ TooLong  -- over 1,024 positions
     ∷ Ragged  -- arrays of one strand, or evidence and bases, differ in length
     ∷ TooManyReads  -- over 1,024 reads in one list

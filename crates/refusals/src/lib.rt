@@ -1,4 +1,4 @@
-// The refusal table of document 01 as an enum, the limits that it names, and the test of one row. specs/Refusal.antt has the order
+// The refusal table of documents 01 and 02 as an enum, the limits that it names, and the test of one row. specs/Refusal.antt has the order
 // of the rows, and specs/Outcome.antt what a refused call answers and leaves. Uses lists.
 #![tactic(auto)]
 
@@ -35,6 +35,8 @@ pub enum Refusal {
     OutputTooShort = 12,
     // Bytes that do not read as what they stand for: a broken tray, or a byte count that does not fit the width.
     Broken = 13,
+    // The ceiling of qualities that a lab chooses is outside 3 to 93.
+    CeilingOutside = 14,
 }
 
 impl Refusal {
