@@ -10,10 +10,10 @@ use Rattle.duplex_position.specs.declared.Position.{Position}
 use Rattle.duplex_call.specs.Annotated.{combined, estimated}
 use Rattle.duplex_arrays.specs.declared.PositionOutputs.{PositionOutputs}
 
--- Base and quality at position i of strands A and B.
-abbrev pub position_of : CtInput → Arrays → Arrays → ℕ → Position
-position_of ct a b i =
-    combined ct (get_or a.bases i 0) (get_or a.quals i 0) (get_or a.evidence.marks i 0)
+-- Base and quality at position i of strands A and B, under the lab's ceiling.
+abbrev pub position_of : ℕ → CtInput → Arrays → Arrays → ℕ → Position
+position_of ceiling ct a b i =
+    combined ceiling ct (get_or a.bases i 0) (get_or a.quals i 0) (get_or a.evidence.marks i 0)
     (get_or b.bases i 0) (get_or b.quals i 0) (get_or b.evidence.marks i 0)
 
 -- The errors' estimate there.
@@ -23,11 +23,11 @@ estimate_of ct a b i =
     (get_or b.bases i 0) (get_or b.quals i 0) (get_or b.depths i 0) (get_or b.errors i 0)
 
 -- The first n positions.
-unfoldable pub combined_bases : ℕ → CtInput → Arrays → Arrays → List ℕ
-combined_bases n ct a b = tabulate n (λ i. (position_of ct a b i).base)
+unfoldable pub combined_bases : ℕ → ℕ → CtInput → Arrays → Arrays → List ℕ
+combined_bases ceiling n ct a b = tabulate n (λ i. (position_of ceiling ct a b i).base)
 
-unfoldable pub combined_quals : ℕ → CtInput → Arrays → Arrays → List ℕ
-combined_quals n ct a b = tabulate n (λ i. (position_of ct a b i).qual)
+unfoldable pub combined_quals : ℕ → ℕ → CtInput → Arrays → Arrays → List ℕ
+combined_quals ceiling n ct a b = tabulate n (λ i. (position_of ceiling ct a b i).qual)
 
 unfoldable pub estimates : ℕ → CtInput → Arrays → Arrays → List ℕ
 estimates n ct a b = tabulate n (estimate_of ct a b)
@@ -62,9 +62,9 @@ errors_short n a b errors =
     ∷ length b.bases ∷ length b.quals ∷ length b.depths ∷ length b.errors ∷ length errors ∷ [])
 
 -- What a call leaves in its outputs.
-pub record PositionsAs (n : ℕ) (ct : CtInput) (a b : Arrays) (bases quals bases_now_is quals_now_is : List ℕ) : Type 0 where
-  pub bases_now : bases_now_is ≡ put (unless_short (positions_short n ct a b bases quals) (combined_bases n ct a b)) bases
-  pub quals_now : quals_now_is ≡ put (unless_short (positions_short n ct a b bases quals) (combined_quals n ct a b)) quals
+pub record PositionsAs (ceiling n : ℕ) (ct : CtInput) (a b : Arrays) (bases quals bases_now_is quals_now_is : List ℕ) : Type 0 where
+  pub bases_now : bases_now_is ≡ put (unless_short (positions_short n ct a b bases quals) (combined_bases ceiling n ct a b)) bases
+  pub quals_now : quals_now_is ≡ put (unless_short (positions_short n ct a b bases quals) (combined_quals ceiling n ct a b)) quals
 
 abbrev pub ErrorsAs : Bool → ℕ → CtInput → Arrays → Arrays → List ℕ → List ℕ → Type 0
 ErrorsAs listed n ct a b errors errors_now = errors_now ≡ put (unless_short (errors_short n a b errors) (combined_errors listed uncounted n ct a b)) errors

@@ -1,5 +1,5 @@
 // The arrays of a two-strand record, position by position, from duplex_caller.rs (combine_strands): bases and qualities, and
-// errors without source reads. Uses lists, refusals, vanilla_caller, duplex_molecule, duplex_position and duplex_call.
+// errors without source reads. Uses lists, refusals, phred, vanilla_caller, duplex_molecule, duplex_position and duplex_call.
 #![tactic(auto)]
 
 ghost use Rattle.std.specs.Prelude.{◌≡◌, ℕ, false, [], ◌∷◌, ◌≤◌, ◌<◌, length, get_or};
@@ -11,6 +11,7 @@ ghost use Rattle.duplex_arrays.specs.Positions.{arrays_short, positions_short, P
 use duplex_call::{CountedBase, MarkedBase, combine_annotated, estimate_errors, estimate_uncalled};
 use duplex_molecule::{CtInput, can_call};
 use duplex_position::{Position, StrandBase, combine_bases};
+use phred::Ceiling;
 use vanilla_caller::{Lengths, VanillaConsensusRead};
 
 // Where base and quality of each position go. A function that is lent it leaves each slice where it is (specs/Positions.antt).
@@ -136,6 +137,7 @@ fn fill_positions<F: Fn(usize) -> Position>(n: usize, at: F, out: &mut PositionO
 // The strands and n come apart: that the arrays reach n, as Shown states, is what is tested here.
 #[tactic(auto, using(lists::proofs::Output::put_none), unfolding(crate::specs::Positions::arrays_short, crate::specs::Positions::unless_short))]
 pub fn write_positions(
+    ceiling: Ceiling,
     ct: CtInput,
     a: VanillaConsensusRead,
     b: VanillaConsensusRead,
@@ -143,7 +145,7 @@ pub fn write_positions(
     out: &mut PositionOutputs<'_>,
 )
     ensures same_references { SamePositions out.old out.new }
-    ensures written { PositionsAs n ct (arrays_in a.entry) (arrays_in b.entry)
+    ensures written { PositionsAs ceiling.value n ct (arrays_in a.entry) (arrays_in b.entry)
         out.old.bases.now out.old.quals.now
         out.new.bases.now out.new.quals.now }
 {
@@ -162,9 +164,13 @@ pub fn write_positions(
             shown: shown_b,
             marks: b.evidence().marks,
         };
-        fill_positions(n, |i| combine_annotated(ct, a.at(i), b.at(i)), out);
+        fill_positions(n, |i| combine_annotated(ceiling, ct, a.at(i), b.at(i)), out);
     } else {
-        fill_positions(n, |i| combine_bases(shown_a.at(i), shown_b.at(i)), out);
+        fill_positions(
+            n,
+            |i| combine_bases(ceiling, shown_a.at(i), shown_b.at(i)),
+            out,
+        );
     }
 }
 

@@ -12,7 +12,7 @@ use Rattle.duplex_molecule.specs.Molecule.{molecule_call, call_as, call_at, is_c
 use Rattle.duplex_molecule.specs.declared.CtInput.{CtInput}
 use Rattle.duplex_molecule.specs.declared.CtInput.TheVariants.{Neither, IsA, IsB}
 use Rattle.duplex_molecule.specs.declared.MoleculeCall.{MoleculeCall}
-use Rattle.duplex_position.specs.Combination.{uncalled}
+use Rattle.duplex_position.specs.Combination.{unmasked, uncalled}
 use Rattle.duplex_errors.specs.Errors.{disagreeing}
 use Rattle.duplex_call.specs.Annotated.{by_call, combined, shown, expected}
 use Rattle.duplex_call.specs.Tests.{is_b, by_b, at_call}
@@ -107,58 +107,58 @@ either (Some call) = of call.pattern
     of GToA = refl
 
 -- The position by the tests is the position by the call.
-abbrev Placed : CtInput → ℕ → ℕ → ℕ → ℕ → ℕ → ℕ → Option MoleculeCall → Type 0
-Placed ct a qa ma b qb mb x =
-    cond (is_call_of (Some CToT) x || is_call_of (Some GToA) x) (at_call (cond (is_call_of (Some CToT) x) CToT GToA) ct a qa ma b qb mb) (uncalled a qa b qb) ≡ by_call ct a qa ma b qb mb x
+abbrev Placed : ℕ → CtInput → ℕ → ℕ → ℕ → ℕ → ℕ → ℕ → Option MoleculeCall → Type 0
+Placed ceiling ct a qa ma b qb mb x =
+    cond (is_call_of (Some CToT) x || is_call_of (Some GToA) x) (at_call ceiling (cond (is_call_of (Some CToT) x) CToT GToA) ct a qa ma b qb mb) (uncalled ceiling a qa b qb) ≡ by_call ceiling ct a qa ma b qb mb x
 
 pub position :
-    (ct : CtInput) (a qa ma b qb mb : ℕ)
-    → cond (is_call_of (Some CToT) (call_at ct a b) || is_call_of (Some GToA) (call_at ct a b)) (at_call (cond (is_call_of (Some CToT) (call_at ct a b)) CToT GToA) ct a qa ma b qb mb) (uncalled a qa b qb) ≡ combined ct a qa ma b qb mb
+    (ceiling : ℕ) (ct : CtInput) (a qa ma b qb mb : ℕ)
+    → cond (is_call_of (Some CToT) (call_at ct a b) || is_call_of (Some GToA) (call_at ct a b)) (at_call ceiling (cond (is_call_of (Some CToT) (call_at ct a b)) CToT GToA) ct a qa ma b qb mb) (uncalled ceiling a qa b qb) ≡ combined ceiling ct a qa ma b qb mb
 unfolding call_at molecule_call is_call_of at_call combined
-position ct a qa ma b qb mb = of ct
+position ceiling ct a qa ma b qb mb = of ct
   where
-    with_a : (c g : Bool) → Placed IsA a qa ma b qb mb (made a b c g)
+    with_a : (c g : Bool) → Placed ceiling IsA a qa ma b qb mb (made a b c g)
     with_a true g = refl
     with_a false true = refl
     with_a false false = refl
 
-    with_b : (c g : Bool) → Placed IsB a qa ma b qb mb (made b a c g)
+    with_b : (c g : Bool) → Placed ceiling IsB a qa ma b qb mb (made b a c g)
     with_b true g = refl
     with_b false true = refl
     with_b false false = refl
 
-    of : (ct : CtInput) → Placed ct a qa ma b qb mb (call_at ct a b)
+    of : (ct : CtInput) → Placed ceiling ct a qa ma b qb mb (call_at ct a b)
     of Neither = refl
     of IsA = with_a (c_test a b) (g_test a b)
     of IsB = with_b (c_test b a) (g_test b a)
 
 -- So is what a read should show.
 abbrev Expected : CtInput → ℕ → ℕ → Bool → ℕ → Option MoleculeCall → Type 0
-Expected ct a b last raw x =
-    cond (is_call_of (Some CToT) x) (cond last letter_c (cond (is_b ct) b a)) (cond (is_call_of (Some GToA) x) (cond last (cond (is_b ct) a b) letter_g) raw) ≡ shown last raw x
+Expected ct a b last unmasked x =
+    cond (is_call_of (Some CToT) x) (cond last letter_c (cond (is_b ct) b a)) (cond (is_call_of (Some GToA) x) (cond last (cond (is_b ct) a b) letter_g) unmasked) ≡ shown last unmasked x
 
 -- What `expected_base` answers by its tests, for its check, which is told of this law.
 pub expects :
     (ct : CtInput) (a qa b qb : ℕ) (last : Bool)
-    → cond (is_call_of (Some CToT) (call_at ct a b)) (cond last letter_c (cond (is_b ct) b a)) (cond (is_call_of (Some GToA) (call_at ct a b)) (cond last (cond (is_b ct) a b) letter_g) (uncalled a qa b qb).raw) ≡ expected ct a qa b qb last
+    → cond (is_call_of (Some CToT) (call_at ct a b)) (cond last letter_c (cond (is_b ct) b a)) (cond (is_call_of (Some GToA) (call_at ct a b)) (cond last (cond (is_b ct) a b) letter_g) (unmasked a qa b qb)) ≡ expected ct a qa b qb last
 unfolding call_at molecule_call is_call_of expected
 expects ct a qa b qb last = of ct
   where
-    with_a : (c g last : Bool) → Expected IsA a b last (uncalled a qa b qb).raw (made a b c g)
+    with_a : (c g last : Bool) → Expected IsA a b last (unmasked a qa b qb) (made a b c g)
     with_a true g true = refl
     with_a true g false = refl
     with_a false true true = refl
     with_a false true false = refl
     with_a false false last = refl
 
-    with_b : (c g last : Bool) → Expected IsB a b last (uncalled a qa b qb).raw (made b a c g)
+    with_b : (c g last : Bool) → Expected IsB a b last (unmasked a qa b qb) (made b a c g)
     with_b true g true = refl
     with_b true g false = refl
     with_b false true true = refl
     with_b false true false = refl
     with_b false false last = refl
 
-    of : (ct : CtInput) → Expected ct a b last (uncalled a qa b qb).raw (call_at ct a b)
+    of : (ct : CtInput) → Expected ct a b last (unmasked a qa b qb) (call_at ct a b)
     of Neither = refl
     of IsA = with_a (c_test a b) (g_test a b) last
     of IsB = with_b (c_test b a) (g_test b a) last

@@ -9,7 +9,7 @@ use Rattle.duplex_molecule.specs.Molecule.{call_at, is_call, same_pattern}
 use Rattle.duplex_molecule.specs.declared.CtInput.{CtInput}
 use Rattle.duplex_molecule.specs.declared.CtInput.TheVariants.{Neither, IsA, IsB}
 use Rattle.duplex_molecule.specs.declared.MoleculeCall.{MoleculeCall}
-use Rattle.duplex_position.specs.Combination.{uncalled, called}
+use Rattle.duplex_position.specs.Combination.{unmasked, uncalled, called}
 use Rattle.duplex_position.specs.declared.Position.{Position}
 use Rattle.duplex_errors.specs.Errors.{agreeing, disagreeing}
 
@@ -19,16 +19,16 @@ carried_by_a Neither pattern = false
 carried_by_a IsA pattern = same_pattern pattern CToT
 carried_by_a IsB pattern = same_pattern pattern GToA
 
--- Base and quality of bases a and b with qualities qa and qb and informative marks ma and mb. Where the informative strand
+-- Base and quality, under the lab's ceiling, of bases a and b with qualities qa and qb and informative marks ma and mb. Where the informative strand
 -- shows the converted base and has no mark, the confirming strand's quality counts alone.
-abbrev pub by_call : CtInput → ℕ → ℕ → ℕ → ℕ → ℕ → ℕ → Option MoleculeCall → Position
-by_call ct a qa ma b qb mb None = uncalled a qa b qb
-by_call ct a qa ma b qb mb (Some c) =
+abbrev pub by_call : ℕ → CtInput → ℕ → ℕ → ℕ → ℕ → ℕ → ℕ → Option MoleculeCall → Position
+by_call ceiling ct a qa ma b qb mb None = uncalled ceiling a qa b qb
+by_call ceiling ct a qa ma b qb mb (Some c) =
     let from_a = carried_by_a ct c.pattern in
-    called a qa b qb c.confirmed (same_letter c.call (pattern_bases c.pattern).converted && eqb (cond from_a ma mb) 0) (cond from_a qb qa)
+    called ceiling a qa b qb c.confirmed (same_letter c.call (pattern_bases c.pattern).converted && eqb (cond from_a ma mb) 0) (cond from_a qb qa)
 
-unfoldable pub combined : CtInput → ℕ → ℕ → ℕ → ℕ → ℕ → ℕ → Position
-combined ct a qa ma b qb mb = by_call ct a qa ma b qb mb (call_at ct a b)
+unfoldable pub combined : ℕ → CtInput → ℕ → ℕ → ℕ → ℕ → ℕ → ℕ → Position
+combined ceiling ct a qa ma b qb mb = by_call ceiling ct a qa ma b qb mb (call_at ct a b)
 
 -- The errors' estimate, with depths da and db and errors ea and eb. Without a call: equal bases add the errors; else the winner's
 -- and the loser's count, where A wins at equal qualities.
@@ -44,8 +44,8 @@ estimated ct a qa da ea b qb db eb = cond (is_call (call_at ct a b)) (agreeing e
 -- What a source read should show: without a call the unmasked base; at a call the informative strand's own byte where the read
 -- is of the call's pattern, else the called base. `last` says that the read has the flag 0x80, which is pattern G to A.
 abbrev pub shown : Bool → ℕ → Option MoleculeCall → ℕ
-shown last raw None = raw
-shown last raw (Some c) = cond (same_pattern c.pattern (cond last GToA CToT)) c.call c.confirmed
+shown last unmasked None = unmasked
+shown last unmasked (Some c) = cond (same_pattern c.pattern (cond last GToA CToT)) c.call c.confirmed
 
 unfoldable pub expected : CtInput → ℕ → ℕ → ℕ → ℕ → Bool → ℕ
-expected ct a qa b qb last = shown last (uncalled a qa b qb).raw (call_at ct a b)
+expected ct a qa b qb last = shown last (unmasked a qa b qb) (call_at ct a b)

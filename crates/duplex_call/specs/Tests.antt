@@ -20,9 +20,9 @@ abbrev pub by_b : ConversionPattern → CtInput → Bool
 by_b CToT ct = is_b ct
 by_b GToA ct = not (is_b ct)
 
-unfoldable pub at_call : ConversionPattern → CtInput → ℕ → ℕ → ℕ → ℕ → ℕ → ℕ → Position
-at_call pattern ct a qa ma b qb mb =
+unfoldable pub at_call : ℕ → ConversionPattern → CtInput → ℕ → ℕ → ℕ → ℕ → ℕ → ℕ → Position
+at_call ceiling pattern ct a qa ma b qb mb =
     let from_b = by_b pattern ct in
-    called a qa b qb (pattern_bases pattern).reference
+    called ceiling a qa b qb (pattern_bases pattern).reference
     (same_letter (cond from_b b a) (pattern_bases pattern).converted && eqb (cond from_b mb ma) 0)
     (cond from_b qa qb)

@@ -1,5 +1,5 @@
 // One position of two strands that may be annotated, from duplex_caller.rs (combine_strands): base and quality, the estimate of
-// errors, and what a source read should show. Uses dna, methylation, duplex_molecule, duplex_position and duplex_errors.
+// errors, and what a source read should show. Uses dna, phred, methylation, duplex_molecule, duplex_position and duplex_errors.
 #![tactic(auto)]
 
 ghost use Rattle.std.specs.Prelude.{◌≡◌, cond};
@@ -10,8 +10,9 @@ ghost use Rattle.duplex_molecule.specs.Molecule.{call_at, is_call, is_call_of};
 use dna::{eq_ignore_ascii_case, to_ascii_uppercase};
 use duplex_errors::{estimate_agreeing, estimate_disagreeing};
 use duplex_molecule::{CtInput, can_call};
-use duplex_position::{Position, StrandBase, combine_bases, combine_called};
+use duplex_position::{Position, StrandBase, combine_bases, combine_called, unmasked_base};
 use methylation::ConversionPattern;
+use phred::Ceiling;
 
 // A strand's base with its informative mark, which a methylation call asks for. A's and B's are two operands, as of a StrandBase.
 #[derive(Clone, Copy)]
@@ -105,18 +106,20 @@ impl Site {
 // Base and quality at a call of a pattern.
 #[tactic(auto, unfolding(crate::specs::Tests::at_call))]
 fn combine_at_call(
+    ceiling: Ceiling,
     pattern: ConversionPattern,
     ct: CtInput,
     a: MarkedBase,
     b: MarkedBase,
 ) -> Position
-    ensures { result ≡ at_call pattern ct a.shown.base a.shown.qual a.mark b.shown.base b.shown.qual b.mark }
+    ensures { result ≡ at_call ceiling.value pattern ct a.shown.base a.shown.qual a.mark b.shown.base b.shown.qual b.mark }
 {
     let by_b = informative_is_b(pattern, ct);
     let informative = pick(by_b, b, a);
     let confirming = pick(by_b, a, b);
     let bases = pattern.bases();
     combine_called(
+        ceiling,
         a.shown,
         b.shown,
         bases.reference,
@@ -127,15 +130,16 @@ fn combine_at_call(
 
 // Base and quality of two strands' bases, qualities and informative marks.
 #[tactic(auto, using(crate::proofs::Calls::position))]
-pub fn combine_annotated(ct: CtInput, a: MarkedBase, b: MarkedBase) -> Position
-    ensures { result ≡ combined ct a.shown.base a.shown.qual a.mark b.shown.base b.shown.qual b.mark }
+pub fn combine_annotated(ceiling: Ceiling, ct: CtInput, a: MarkedBase, b: MarkedBase) -> Position
+    ensures { result ≡ combined ceiling.value ct a.shown.base a.shown.qual a.mark b.shown.base b.shown.qual b.mark }
 {
     let site = Site::of(ct, a.shown, b.shown);
     let c_to_t = site.is_call_of(ConversionPattern::CToT);
     let g_to_a = site.is_call_of(ConversionPattern::GToA);
     let pattern = pick(c_to_t, ConversionPattern::CToT, ConversionPattern::GToA);
-    let at_call = combine_at_call(pattern, ct, a, b);
-    pick(c_to_t | g_to_a, at_call, combine_bases(a.shown, b.shown))
+    let at_call = combine_at_call(ceiling, pattern, ct, a, b);
+    let uncalled = combine_bases(ceiling, a.shown, b.shown);
+    pick(c_to_t | g_to_a, at_call, uncalled)
 }
 
 // The errors' estimate where there is no call. Of different bases that of the higher quality wins, A's where they are equal.
@@ -176,9 +180,9 @@ pub fn expected_base(ct: CtInput, a: StrandBase, b: StrandBase, last: bool) -> u
     let is_b = ct_is_b(ct);
     let at_c = pick(last, b'C', pick(is_b, b.base, a.base));
     let at_g = pick(last, pick(is_b, a.base, b.base), b'G');
-    let raw = combine_bases(a, b).raw;
+    let unmasked = unmasked_base(a, b);
     let site = Site::of(ct, a, b);
-    let uncalled_or_g = pick(site.is_call_of(ConversionPattern::GToA), at_g, raw);
+    let uncalled_or_g = pick(site.is_call_of(ConversionPattern::GToA), at_g, unmasked);
     pick(
         site.is_call_of(ConversionPattern::CToT),
         at_c,

@@ -1,3 +1,2 @@
 pub mod Adding
 pub mod Counted
-pub mod Unmasked

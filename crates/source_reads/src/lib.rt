@@ -6,14 +6,13 @@ ghost use Rattle.std.specs.Prelude.{◌≡◌, ℕ, [], ◌∷◌, ◌<◌, ◌�
 ghost use Rattle.lists.specs.Output.{put};
 ghost use Rattle.lists.specs.Table.{tabulate, Tells};
 ghost use Rattle.numbers.specs.Numbers.{smallest};
-ghost use Rattle.duplex_position.specs.Combination.{uncalled};
 ghost use Rattle.source_reads.specs.Arrays.{combined_in, shown_in, asked};
 ghost use Rattle.source_reads.specs.Bases.{base_at, bases_errors};
 ghost use Rattle.source_reads.specs.Reads.{any_leaves, one_more, counted_length, expected_bases, shown_errors, counted_errors};
 
 use duplex_call::expected_base;
 use duplex_molecule::{CtInput, is_error};
-use duplex_position::StrandBase;
+use duplex_position::{StrandBase, unmasked_base};
 use flags::{LAST_SEGMENT, is_set};
 use lists::{part, part_leaves};
 use refusals::MAX_POSITIONS;
@@ -106,15 +105,6 @@ pub fn counted_within(s: CombinedBases<'_>, errors: usize) -> usize
         s.b.quals.len(),
         errors,
     )
-}
-
-// The base before it is masked, where there is no call: `combine_bases(a, b).raw`, by which the array of 150 positions takes 444 ns in place
-// of 84 to 120.
-#[tactic(auto, using(crate::proofs::Unmasked::b_wins, crate::proofs::Unmasked::a_wins))]
-fn unmasked_base(a: StrandBase, b: StrandBase) -> u8
-    ensures { result ≡ (uncalled a.base a.qual b.base b.qual).raw }
-{
-    if a.qual < b.qual { b.base } else { a.base }
 }
 
 #[tactic(auto, unfolding(crate::specs::Reads::one_more), using(numbers::proofs::Numbers::saturated))]

@@ -13,12 +13,12 @@ pub returns-then-can_call-clause-written : goal.returns-then-can_call-clause-wri
 unfolding combined_bases combined_quals
 returns-then-can_call-clause-written c =
     let enough = sym c.positions_short.ensures ∙ c.if-positions_short.false in
-    let written = c.fill_positions.ensures.written (position_of c.args.ct (arrays_in c.args.a) (arrays_in c.args.b)) (λ i l p e. search rules) in
+    let written = c.fill_positions.ensures.written (position_of c.args.ceiling.value c.args.ct (arrays_in c.args.a) (arrays_in c.args.b)) (λ i l p e. search rules) in
     record { bases_now = all_written _ _ enough written.0; quals_now = all_written _ _ enough written.1 }
 
 pub returns-else-can_call-clause-written : goal.returns-else-can_call-clause-written
 unfolding combined_bases combined_quals combined call_at
 returns-else-can_call-clause-written c =
     let enough = sym c.positions_short.ensures ∙ c.if-positions_short.false in
-    let written = c.fill_positions-else-can_call.ensures.written (position_of c.args.ct (arrays_in c.args.a) (arrays_in c.args.b)) (λ i l p e. search (rules, without_calls)) in
+    let written = c.fill_positions-else-can_call.ensures.written (position_of c.args.ceiling.value c.args.ct (arrays_in c.args.a) (arrays_in c.args.b)) (λ i l p e. search (rules, without_calls)) in
     record { bases_now = all_written _ _ enough written.0; quals_now = all_written _ _ enough written.1 }
