@@ -1,7 +1,8 @@
-// Two strands that may be annotated, combined position by position, from duplex_caller.rs (combine_strands). Uses refusals, methylation,
-// vanilla_caller, duplex_molecule, duplex_arrays, duplex_evidence, duplex_outputs and duplex_strands.
+// Two strands that may be annotated, combined position by position, from duplex_caller.rs (combine_strands). Uses refusals, settings,
+// methylation, vanilla_caller, duplex_molecule, duplex_arrays, duplex_evidence, duplex_outputs and duplex_strands.
 #![tactic(auto)]
 
+ghost use Rattle.settings.specs.Settings.{given_of};
 ghost use Rattle.methylation.specs.Outputs.{evidence_out, SameEvidence};
 ghost use Rattle.vanilla_caller.specs.Strand.{annotation_in, arrays_in};
 ghost use Rattle.duplex_molecule.specs.Molecule.{ct_input};
@@ -15,6 +16,7 @@ use duplex_outputs::RecordOutputs;
 use duplex_strands::combined_length;
 use methylation::EvidenceOutputs;
 use refusals::Refusal;
+use settings::Settings;
 use vanilla_caller::VanillaConsensusRead;
 
 // Combines strands that may be annotated. Evidence is written of annotated strands only. Refuses by 7, 8, 12.
@@ -23,6 +25,7 @@ use vanilla_caller::VanillaConsensusRead;
 // Inlined for speed (duplex_record).
 #[inline(always)]
 pub fn combine_strands_annotated(
+    settings: Settings,
     a: VanillaConsensusRead,
     b: VanillaConsensusRead,
     listed: bool,
@@ -31,7 +34,7 @@ pub fn combine_strands_annotated(
     b_out: &mut EvidenceOutputs<'_>,
 ) -> Result<usize, Refusal>
     ensures same_references { SameOutputs out.old out.new × SameEvidence a_out.old a_out.new × SameEvidence b_out.old b_out.new }
-    ensures combined { CombinedAs (ct_input (annotation_in a.entry) (annotation_in b.entry)) (annotation_in a.entry) (arrays_in a.entry) (annotation_in b.entry) (arrays_in b.entry)
+    ensures combined { CombinedAs (given_of settings) (ct_input (annotation_in a.entry) (annotation_in b.entry)) (annotation_in a.entry) (arrays_in a.entry) (annotation_in b.entry) (arrays_in b.entry)
         listed
         (record_out out.old (evidence_out a_out.old) (evidence_out b_out.old))
         (record_out out.new (evidence_out a_out.new) (evidence_out b_out.new))
@@ -46,7 +49,7 @@ pub fn combine_strands_annotated(
         bases: &mut *out.bases,
         quals: &mut *out.quals,
     };
-    write_positions(ct, a, b, n, &mut positions);
+    write_positions(settings.ceiling, ct, a, b, n, &mut positions);
     write_errors(ct, listed, a, b, n, out.errors);
     write_evidence(ct, a, b, a, n, a_out);
     write_evidence(ct, a, b, b, n, b_out);

@@ -8,6 +8,7 @@ use Rattle.refusals.specs.declared.Refusal.{Refusal}
 use Rattle.refusals.specs.declared.Refusal.TheVariants.{OutputTooShort}
 use Rattle.refusals.specs.Refusal.{◌if◌, refused}
 use Rattle.refusals.specs.Outcome.{answer}
+use Rattle.settings.specs.declared.GivenSettings.{GivenSettings}
 use Rattle.methylation.specs.declared.ConversionPattern.{ConversionPattern}
 use Rattle.vanilla_caller.specs.Strand.{Arrays}
 use Rattle.duplex_outputs.specs.Outputs.{RecordArrays, LeavesRecord}
@@ -22,7 +23,7 @@ use Rattle.duplex_record.specs.Record.{record_arrays, outputs_short, duplex_refu
 use Rattle.duplex_record.specs.Absent.{NotLookedAt}
 
 -- Of a record of one strand, or of none, the other strand does not matter.
-module _ (s t other : Strand) (k : ℕ) (listed : Bool) (f g : ℕ → ℕ) (out : RecordArrays) where
+module _ (lab : GivenSettings) (s t other : Strand) (k : ℕ) (listed : Bool) (f g : ℕ → ℕ) (out : RecordArrays) where
   short_first : (met : Bool) → outputs_short s other out (cond met (Some (Ba k)) None) ≡ outputs_short t other out (cond met (Some (Ba k)) None)
   short_first true = refl
   short_first false = refl
@@ -31,20 +32,20 @@ module _ (s t other : Strand) (k : ℕ) (listed : Bool) (f g : ℕ → ℕ) (out
   short_second true = refl
   short_second false = refl
 
-  arrays_first : (met : Bool) → record_arrays s other listed f (cond met (Some (Ba k)) None) ≡ record_arrays t other listed g (cond met (Some (Ba k)) None)
+  arrays_first : (met : Bool) → record_arrays lab s other listed f (cond met (Some (Ba k)) None) ≡ record_arrays lab t other listed g (cond met (Some (Ba k)) None)
   arrays_first true = refl
   arrays_first false = refl
 
-  arrays_second : (met : Bool) → record_arrays other s listed f (cond met (Some (Ab k)) None) ≡ record_arrays other t listed g (cond met (Some (Ab k)) None)
+  arrays_second : (met : Bool) → record_arrays lab other s listed f (cond met (Some (Ab k)) None) ≡ record_arrays lab other t listed g (cond met (Some (Ab k)) None)
   arrays_second true = refl
   arrays_second false = refl
 
 -- What is written of the strands, as far as their evidence is looked at.
-record_seen : (a b : Strand) (listed : Bool) (f : ℕ → ℕ) (k : Option DuplexConsensus) → record_arrays (seen_of a) (seen_of b) listed f k ≡ record_arrays a b listed f k
-record_seen a b listed f None = refl
-record_seen a b listed f (Some (Ab n)) = single_seen a.annotation a.arrays
-record_seen a b listed f (Some (Ba n)) = single_seen b.annotation b.arrays
-record_seen a b listed f (Some (Both n)) = both_seen listed f n a.annotation a.arrays b.annotation b.arrays
+record_seen : (lab : GivenSettings) (a b : Strand) (listed : Bool) (f : ℕ → ℕ) (k : Option DuplexConsensus) → record_arrays lab (seen_of a) (seen_of b) listed f k ≡ record_arrays lab a b listed f k
+record_seen lab a b listed f None = refl
+record_seen lab a b listed f (Some (Ab n)) = single_seen a.annotation a.arrays
+record_seen lab a b listed f (Some (Ba n)) = single_seen b.annotation b.arrays
+record_seen lab a b listed f (Some (Both n)) = both_seen lab listed f n a.annotation a.arrays b.annotation b.arrays
 
 -- The same answer, and the same that is left.
 moved : (kind : Option DuplexConsensus) {n m : Option Refusal} {v w before now : RecordArrays} {r : Result (Option DuplexConsensus) Refusal}
@@ -53,33 +54,33 @@ moved : (kind : Option DuplexConsensus) {n m : Option Refusal} {v w before now :
     → (r ≡ answer m kind) × LeavesRecord m w before now
 moved kind e f h = rw (← e, ← f) h
 
-module _ (f g : ℕ → ℕ) (listed : Bool) (count : ℕ) (leaving : Bool) (before now : RecordArrays) (r : Result (Option DuplexConsensus) Refusal) where
-  first : (m n : Option ConversionPattern) (x y : Arrays) (b : Strand) → DuplexAs (absent m x) b listed count leaving f before now r → DuplexAs (absent n y) b listed count leaving g before now r
+module _ (lab : GivenSettings) (f g : ℕ → ℕ) (listed : Bool) (count : ℕ) (leaving : Bool) (before now : RecordArrays) (r : Result (Option DuplexConsensus) Refusal) where
+  first : (m n : Option ConversionPattern) (x y : Arrays) (b : Strand) → DuplexAs lab (absent m x) b listed count leaving f before now r → DuplexAs lab (absent n y) b listed count leaving g before now r
   first m n x y b d =
       let s = absent m x in
       let t = absent n y in
-      let rows = ap (λ (short : Bool). refused (strand_faults s b listed count leaving ++ (OutputTooShort if short) ∷ [])) (short_first s t b _ listed f g before _) in
-      let (answered, outputs) = moved (kind_of s b) {n = duplex_refused s b listed count leaving before} {m = duplex_refused t b listed count leaving before} rows (arrays_first s t b _ listed f g before _) (d.answered, d.outputs) in
+      let rows = ap (λ (short : Bool). refused (strand_faults s b listed count leaving ++ (OutputTooShort if short) ∷ [])) (short_first lab s t b _ listed f g before _) in
+      let (answered, outputs) = moved (kind_of s b) {n = duplex_refused s b listed count leaving before} {m = duplex_refused t b listed count leaving before} rows (arrays_first lab s t b _ listed f g before _) (d.answered, d.outputs) in
       record { answered = answered; outputs = outputs }
 
-  second : (a : Strand) (m n : Option ConversionPattern) (x y : Arrays) → DuplexAs a (absent m x) listed count leaving f before now r → DuplexAs a (absent n y) listed count leaving g before now r
+  second : (a : Strand) (m n : Option ConversionPattern) (x y : Arrays) → DuplexAs lab a (absent m x) listed count leaving f before now r → DuplexAs lab a (absent n y) listed count leaving g before now r
   second a m n x y d =
       let s = absent m x in
       let t = absent n y in
-      let rows = ap (λ (short : Bool). refused (strand_faults a s listed count leaving ++ (OutputTooShort if short) ∷ [])) (short_second s t a _ listed f g before _) in
-      let (answered, outputs) = moved (kind_of a s) {n = duplex_refused a s listed count leaving before} {m = duplex_refused a t listed count leaving before} rows (arrays_second s t a _ listed f g before _) (d.answered, d.outputs) in
+      let rows = ap (λ (short : Bool). refused (strand_faults a s listed count leaving ++ (OutputTooShort if short) ∷ [])) (short_second lab s t a _ listed f g before _) in
+      let (answered, outputs) = moved (kind_of a s) {n = duplex_refused a s listed count leaving before} {m = duplex_refused a t listed count leaving before} rows (arrays_second lab s t a _ listed f g before _) (d.answered, d.outputs) in
       record { answered = answered; outputs = outputs }
 
-  evidence : (a b : Strand) → DuplexAs (seen_of a) (seen_of b) listed count leaving f before now r → DuplexAs a b listed count leaving f before now r
+  evidence : (a b : Strand) → DuplexAs lab (seen_of a) (seen_of b) listed count leaving f before now r → DuplexAs lab a b listed count leaving f before now r
   evidence a b d =
       let last = (OutputTooShort if outputs_short a b before (kind_of a b)) ∷ [] in
       let rows : duplex_refused (seen_of a) (seen_of b) listed count leaving before ≡ duplex_refused a b listed count leaving before =
       ap (λ (g : Given). refused (given_faults g (given (seen_of b)) listed count leaving ++ last)) (given_seen a)
       ∙ ap (λ (g : Given). refused (given_faults (given a) g listed count leaving ++ last)) (given_seen b) in
-      let (answered, outputs) = moved (kind_of a b) rows (record_seen a b listed f (kind_of a b)) (d.answered, d.outputs) in
+      let (answered, outputs) = moved (kind_of a b) rows (record_seen lab a b listed f (kind_of a b)) (d.answered, d.outputs) in
       record { answered = answered; outputs = outputs }
 
-  pub not_looked_at : NotLookedAt f g listed count leaving before now r
+  pub not_looked_at : NotLookedAt lab f g listed count leaving before now r
   not_looked_at = record {
     first = first;
     second = second;

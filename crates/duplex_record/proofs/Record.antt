@@ -17,6 +17,7 @@ use Rattle.refusals.specs.declared.Refusal.{Refusal}
 use Rattle.refusals.specs.declared.Refusal.TheVariants.{TooLong, Ragged, TooManyReads, PartOutside, OutputTooShort}
 use Rattle.refusals.specs.Refusal.{◌if◌, refused}
 use Rattle.refusals.specs.Outcome.{answer, or_later}
+use Rattle.settings.specs.declared.GivenSettings.{GivenSettings}
 use Rattle.methylation.specs.Arrays.{evidence_arrays}
 use Rattle.duplex_molecule.specs.Molecule.{ct_input}
 use Rattle.duplex_outputs.specs.Outputs.{RecordArrays, record_lengths, record_too_short, LeavesRecord}
@@ -46,9 +47,9 @@ module _ {before now : RecordArrays} {r : Result ℕ Refusal} where
   pub lent_single : {a : Strand} {p : Bool} (s : VanillaConsensusRead) → a ≡ lent_as p s → SingleAs (annotation_in s) (arrays_in s) before now r → SingleAs a.annotation a.arrays before now r
   lent_single s e h = subst (λ (x : Strand). SingleAs x.annotation x.arrays before now r) (sym e) h
 
-  pub lent_combined : {a b : Strand} {p q listed : Bool} (s t : VanillaConsensusRead) → a ≡ lent_as p s → b ≡ lent_as q t → CombinedAs (ct_input (annotation_in s) (annotation_in t)) (annotation_in s) (arrays_in s) (annotation_in t) (arrays_in t) listed before now r → CombinedAs (ct_input a.annotation b.annotation) a.annotation a.arrays b.annotation b.arrays listed before now r
-  lent_combined {a} {b} {p} {q} {listed} s t e f h =
-      subst (λ (x : Strand). CombinedAs (ct_input x.annotation b.annotation) x.annotation x.arrays b.annotation b.arrays listed before now r) (sym e) (subst (λ (y : Strand). CombinedAs (ct_input (annotation_in s) y.annotation) (annotation_in s) (arrays_in s) y.annotation y.arrays listed before now r) (sym f) h)
+  pub lent_combined : {lab : GivenSettings} {a b : Strand} {p q listed : Bool} (s t : VanillaConsensusRead) → a ≡ lent_as p s → b ≡ lent_as q t → CombinedAs lab (ct_input (annotation_in s) (annotation_in t)) (annotation_in s) (arrays_in s) (annotation_in t) (arrays_in t) listed before now r → CombinedAs lab (ct_input a.annotation b.annotation) a.annotation a.arrays b.annotation b.arrays listed before now r
+  lent_combined {lab} {a} {b} {p} {q} {listed} s t e f h =
+      subst (λ (x : Strand). CombinedAs lab (ct_input x.annotation b.annotation) x.annotation x.arrays b.annotation b.arrays listed before now r) (sym e) (subst (λ (y : Strand). CombinedAs lab (ct_input (annotation_in s) y.annotation) (annotation_in s) (arrays_in s) y.annotation y.arrays listed before now r) (sym f) h)
 
 -- The outputs to which a strand alone goes.
 abbrev pub first_strand : RecordArrays → RecordArrays
@@ -117,7 +118,7 @@ told_kind : (row : Option Refusal) (k : Option DuplexConsensus) {kind : DuplexCo
 told_kind None k e = cc
 told_kind (Some row) k e = absurd cc
 
-module _ (a b : Strand) (listed : Bool) (count : ℕ) (leaving : Bool) (before : RecordArrays) where
+module _ (lab : GivenSettings) (a b : Strand) (listed : Bool) (count : ℕ) (leaving : Bool) (before : RecordArrays) where
   abbrev early : Option Refusal
   early = refused (strand_faults a b listed count leaving)
 
@@ -131,19 +132,19 @@ module _ (a b : Strand) (listed : Bool) (count : ℕ) (leaving : Bool) (before :
   left_12 : {k : Option DuplexConsensus} → early ≡ None → kind_of a b ≡ k → row ≡ only_12 (outputs_short a b before k)
   left_12 z k = joined ∙ ap (λ (r : Option Refusal). or_later r (only_12 (outputs_short a b before (kind_of a b)))) z ∙ ap (λ (made : Option DuplexConsensus). only_12 (outputs_short a b before made)) k
 
-  pub turned_down : {refusal : Refusal} → record_kind a b listed count leaving ≡ Err refusal → DuplexAs a b listed count leaving uncounted before before (Err refusal)
+  pub turned_down : {refusal : Refusal} → record_kind a b listed count leaving ≡ Err refusal → DuplexAs lab a b listed count leaving uncounted before before (Err refusal)
   turned_down {refusal} e =
       let first : row ≡ Some refusal = joined ∙ ap (λ (r : Option Refusal). or_later r (only_12 (outputs_short a b before (kind_of a b)))) (is_refused a b listed count leaving e) in
       record { answered = ap (λ (r : Option Refusal). answer r (kind_of a b)) (sym first); outputs = leaves_equal (sym first) refl (record_refused refusal _ _) }
 
   -- What is answered where row 12 does not refuse either, and where it does.
-  pub none : record_kind a b listed count leaving ≡ Ok None → DuplexAs a b listed count leaving uncounted before before (Ok None)
+  pub none : record_kind a b listed count leaving ≡ Ok None → DuplexAs lab a b listed count leaving uncounted before before (Ok None)
   none e =
       let (z, k) = is_none a b listed count leaving e in
       let passed : row ≡ None = left_12 z k in
       record {
         answered = ap Ok (sym k) ∙ ap (λ (r : Option Refusal). answer r (kind_of a b)) (sym passed);
-        outputs = leaves_equal refl (ap (record_arrays a b listed uncounted) (sym k)) (untouched row before);
+        outputs = leaves_equal refl (ap (record_arrays lab a b listed uncounted) (sym k)) (untouched row before);
       }
 
   -- The kind that is told, where no row refuses.
@@ -152,7 +153,7 @@ module _ (a b : Strand) (listed : Bool) (count : ℕ) (leaving : Bool) (before :
 
   module _ (now : RecordArrays) where
     abbrev Promised : Result (Option DuplexConsensus) Refusal → Type 0
-    Promised r = DuplexAs a b listed count leaving uncounted before now r
+    Promised r = DuplexAs lab a b listed count leaving uncounted before now r
 
     -- Strand s alone, where the record is of this kind.
     alone :
@@ -161,7 +162,7 @@ module _ (a b : Strand) (listed : Bool) (count : ℕ) (leaving : Bool) (before :
         → answered ≡ made_by kind r
         → single_refused s.annotation s.arrays (first_strand before) ≡ row
         → Some kind ≡ kind_of a b
-        → single_arrays s.annotation s.arrays ≡ record_arrays a b listed uncounted (kind_of a b)
+        → single_arrays s.annotation s.arrays ≡ record_arrays lab a b listed uncounted (kind_of a b)
         → SingleAs s.annotation s.arrays (first_strand before) (first_strand now) r
         → Same before.b now.b
         → Promised answered
@@ -176,19 +177,19 @@ module _ (a b : Strand) (listed : Bool) (count : ℕ) (leaving : Bool) (before :
       pub alone_ab : kind ≡ Ab m → SingleAs a.annotation a.arrays (first_strand before) (first_strand now) r → Same before.b now.b → Promised answered
       alone_ab is single other =
           let (z, k, p) = is_ab a b listed count leaving (e ∙ ap (λ (k : DuplexConsensus). Ok (Some k)) is) in
-          alone a kind told (single_12 a before p ∙ sym (left_12 z k)) (kind_made e) (ap (record_arrays a b listed uncounted) (sym k)) single other
+          alone a kind told (single_12 a before p ∙ sym (left_12 z k)) (kind_made e) (ap (record_arrays lab a b listed uncounted) (sym k)) single other
 
       pub alone_ba : kind ≡ Ba m → SingleAs b.annotation b.arrays (first_strand before) (first_strand now) r → Same before.b now.b → Promised answered
       alone_ba is single other =
           let (z, k, p) = is_ba a b listed count leaving (e ∙ ap (λ (k : DuplexConsensus). Ok (Some k)) is) in
-          alone b kind told (single_12 b before p ∙ sym (left_12 z k)) (kind_made e) (ap (record_arrays a b listed uncounted) (sym k)) single other
+          alone b kind told (single_12 b before p ∙ sym (left_12 z k)) (kind_made e) (ap (record_arrays lab a b listed uncounted) (sym k)) single other
 
-      pub both : kind ≡ Both m → CombinedAs (ct_input a.annotation b.annotation) a.annotation a.arrays b.annotation b.arrays listed before now r → Promised answered
+      pub both : kind ≡ Both m → CombinedAs lab (ct_input a.annotation b.annotation) a.annotation a.arrays b.annotation b.arrays listed before now r → Promised answered
       both is combined =
           let (z, k, p, q) = is_both a b listed count leaving (e ∙ ap (λ (k : DuplexConsensus). Ok (Some k)) is) in
           let first = combine_refused a.annotation a.arrays b.annotation b.arrays before in
           let same : first ≡ row = both_12 a b before p q ∙ sym (left_12 z k) in
           record {
             answered = told ∙ ap (made_by kind) combined.answered ∙ handed kind first (min (positions a) (positions b)) ∙ ap (answer first) (kind_made e) ∙ ap (λ (r : Option Refusal). answer r (kind_of a b)) same;
-            outputs = leaves_equal same (ap (record_arrays a b listed uncounted) (sym k)) combined.outputs;
+            outputs = leaves_equal same (ap (record_arrays lab a b listed uncounted) (sym k)) combined.outputs;
           }

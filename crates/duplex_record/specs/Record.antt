@@ -4,6 +4,7 @@ use Rattle.refusals.specs.declared.Refusal.{Refusal}
 use Rattle.refusals.specs.declared.Refusal.TheVariants.{OutputTooShort}
 use Rattle.refusals.specs.Refusal.{Fault, ◌if◌, refused}
 use Rattle.refusals.specs.Outcome.{answer}
+use Rattle.settings.specs.declared.GivenSettings.{GivenSettings}
 use Rattle.duplex_molecule.specs.Molecule.{ct_input}
 use Rattle.duplex_outputs.specs.Outputs.{RecordArrays, record_of, record_lengths, record_too_short, LeavesRecord}
 use Rattle.duplex_strands.specs.Combine.{both_arrays}
@@ -16,13 +17,13 @@ use Rattle.duplex_kind.specs.declared.DuplexConsensus.TheVariants.{Ab, Ba, Both}
 abbrev pub nothing : RecordArrays
 nothing = record_of [] [] [] [] [] [] [] [] []
 
--- What is written. `counted` is what was counted of a list of reads at each position of a record of two strands.
-abbrev pub record_arrays : Strand → Strand → Bool → (ℕ → ℕ) → Option DuplexConsensus → RecordArrays
-record_arrays a b listed counted None = nothing
-record_arrays a b listed counted (Some (Ab n)) = single_arrays a.annotation a.arrays
-record_arrays a b listed counted (Some (Ba n)) = single_arrays b.annotation b.arrays
-record_arrays a b listed counted (Some (Both n)) =
-    both_arrays listed counted n (ct_input a.annotation b.annotation) a.annotation a.arrays b.annotation b.arrays
+-- What is written, by a lab's settings. `counted` is what was counted of a list of reads at each position of a record of two strands.
+abbrev pub record_arrays : GivenSettings → Strand → Strand → Bool → (ℕ → ℕ) → Option DuplexConsensus → RecordArrays
+record_arrays lab a b listed counted None = nothing
+record_arrays lab a b listed counted (Some (Ab n)) = single_arrays a.annotation a.arrays
+record_arrays lab a b listed counted (Some (Ba n)) = single_arrays b.annotation b.arrays
+record_arrays lab a b listed counted (Some (Both n)) =
+    both_arrays lab listed counted n (ct_input a.annotation b.annotation) a.annotation a.arrays b.annotation b.arrays
 
 -- Refusal 12's condition: only for what is written.
 abbrev pub outputs_short : Strand → Strand → RecordArrays → Option DuplexConsensus → Bool
@@ -39,6 +40,6 @@ abbrev pub duplex_refused : Strand → Strand → Bool → ℕ → Bool → Reco
 duplex_refused a b listed count leaving out = refused (duplex_faults a b listed count leaving out)
 
 -- What a call answers and leaves in its outputs.
-pub record DuplexAs (a b : Strand) (listed : Bool) (count : ℕ) (leaving : Bool) (counted : ℕ → ℕ) (before now : RecordArrays) (r : Result (Option DuplexConsensus) Refusal) : Type 0 where
+pub record DuplexAs (lab : GivenSettings) (a b : Strand) (listed : Bool) (count : ℕ) (leaving : Bool) (counted : ℕ → ℕ) (before now : RecordArrays) (r : Result (Option DuplexConsensus) Refusal) : Type 0 where
   pub answered : r ≡ answer (duplex_refused a b listed count leaving before) (kind_of a b)
-  pub outputs : LeavesRecord (duplex_refused a b listed count leaving before) (record_arrays a b listed counted (kind_of a b)) before now
+  pub outputs : LeavesRecord (duplex_refused a b listed count leaving before) (record_arrays lab a b listed counted (kind_of a b)) before now

@@ -1,9 +1,10 @@
 // The duplex record, from duplex_caller.rs (duplex_consensus): of two strands, one or none, without the source reads, whose
-// errors are counted later. Uses lists, refusals, methylation, vanilla_caller, duplex_molecule, duplex_outputs, duplex_strands,
-// duplex_annotated, duplex_single and duplex_kind.
+// errors are counted later. Uses lists, refusals, settings, methylation, vanilla_caller, duplex_molecule, duplex_outputs,
+// duplex_strands, duplex_annotated, duplex_single and duplex_kind.
 #![tactic(auto)]
 
 ghost use Rattle.std.specs.Prelude.{◌≡◌, is_some};
+ghost use Rattle.settings.specs.Settings.{given_of as lab_of};
 ghost use Rattle.methylation.specs.Outputs.{evidence_out, no_evidence, SameEvidence};
 ghost use Rattle.duplex_outputs.specs.Lent.{record_out, SameOutputs};
 ghost use Rattle.duplex_strands.specs.Combine.{uncounted};
@@ -18,6 +19,7 @@ use duplex_outputs::RecordOutputs;
 use duplex_single::gated_single_strand;
 use methylation::EvidenceOutputs;
 use refusals::Refusal;
+use settings::Settings;
 use vanilla_caller::VanillaConsensusRead;
 
 // The strand, or one of no positions.
@@ -37,6 +39,7 @@ fn lent<'a>(s: Option<VanillaConsensusRead<'a>>) -> VanillaConsensusRead<'a>
 // without a list or annotation takes 390 ns for 450, one of 300 takes 560 for 630.
 #[inline(always)]
 pub fn duplex_record(
+    settings: Settings,
     a: Option<VanillaConsensusRead>,
     b: Option<VanillaConsensusRead>,
     list: Option<GivenReads>,
@@ -45,7 +48,7 @@ pub fn duplex_record(
     b_out: &mut EvidenceOutputs<'_>,
 ) -> Result<Option<DuplexConsensus>, Refusal>
     ensures same_references { SameOutputs out.old out.new × SameEvidence a_out.old a_out.new × SameEvidence b_out.old b_out.new }
-    ensures made { DuplexAs (given_of a.entry) (given_of b.entry) (is_some list) (count_in list) (leaving_in list) uncounted
+    ensures made { DuplexAs (lab_of settings) (given_of a.entry) (given_of b.entry) (is_some list) (count_in list) (leaving_in list) uncounted
         (record_out out.old (evidence_out a_out.old) (evidence_out b_out.old))
         (record_out out.new (evidence_out a_out.new) (evidence_out b_out.new))
         result }
@@ -59,7 +62,7 @@ pub fn duplex_record(
         DuplexConsensus::Ab(_) => gated_single_strand(a, out, a_out),
         DuplexConsensus::Ba(_) => gated_single_strand(b, out, a_out),
         DuplexConsensus::Both(_) => {
-            combine_strands_annotated(a, b, list.is_some(), out, a_out, b_out)
+            combine_strands_annotated(settings, a, b, list.is_some(), out, a_out, b_out)
         }
     };
     written.map(|_| Some(kind))
@@ -75,18 +78,20 @@ fn plain<'a>(s: Option<VanillaConsensusRead<'a>>) -> Option<VanillaConsensusRead
 // The same of strands without their annotations, whose evidence goes nowhere: these are not looked at. Of the reads their number and
 // `leaving` are, as there.
 pub fn plain_record(
+    settings: Settings,
     a: Option<VanillaConsensusRead>,
     b: Option<VanillaConsensusRead>,
     list: Option<GivenReads>,
     out: &mut RecordOutputs<'_>,
 ) -> Result<Option<DuplexConsensus>, Refusal>
     ensures same_references { SameOutputs out.old out.new }
-    ensures made { DuplexAs (plain_of a.entry) (plain_of b.entry) (is_some list) (count_in list) (leaving_in list) uncounted
+    ensures made { DuplexAs (lab_of settings) (plain_of a.entry) (plain_of b.entry) (is_some list) (count_in list) (leaving_in list) uncounted
         (record_out out.old no_evidence no_evidence)
         (record_out out.new no_evidence no_evidence)
         result }
 {
     duplex_record(
+        settings,
         plain(a),
         plain(b),
         list,

@@ -8,6 +8,7 @@ use Prim.Native.Nat.{ℕ, min}
 use lib.ListN.{length}
 use Rattle.std.proofs.Common.{None, Some, Option}
 use Rattle.lists.specs.Part.{only_if}
+use Rattle.settings.specs.declared.GivenSettings.{GivenSettings}
 use Rattle.methylation.specs.declared.ConversionPattern.{ConversionPattern}
 use Rattle.vanilla_caller.specs.Strand.{Arrays, arrays_seen}
 use Rattle.duplex_molecule.specs.Molecule.{ct_input, call_at}
@@ -16,19 +17,19 @@ use Rattle.duplex_strands.specs.Combine.{combined_bases, combined_quals, estimat
 use Rattle.duplex_strands.specs.Absent.{NotLookedAt}
 
 pub both_seen :
-    (listed : Bool) (counted : ℕ → ℕ) (n : ℕ) (ma : Option ConversionPattern) (a : Arrays) (mb : Option ConversionPattern) (b : Arrays)
-    → both_arrays listed counted n (ct_input ma mb) ma (arrays_seen ma a) mb (arrays_seen mb b) ≡ both_arrays listed counted n (ct_input ma mb) ma a mb b
+    (lab : GivenSettings) (listed : Bool) (counted : ℕ → ℕ) (n : ℕ) (ma : Option ConversionPattern) (a : Arrays) (mb : Option ConversionPattern) (b : Arrays)
+    → both_arrays lab listed counted n (ct_input ma mb) ma (arrays_seen ma a) mb (arrays_seen mb b) ≡ both_arrays lab listed counted n (ct_input ma mb) ma a mb b
 unfolding ct_input call_at combined combined_bases combined_quals combined_errors estimates kept_marks kept_unconverted kept_converted only_if
-both_seen listed counted n None a None b = refl
-both_seen listed counted n None a (Some q) b = refl
-both_seen listed counted n (Some p) a None b = refl
-both_seen listed counted n (Some p) a (Some q) b = refl
+both_seen lab listed counted n None a None b = refl
+both_seen lab listed counted n None a (Some q) b = refl
+both_seen lab listed counted n (Some p) a None b = refl
+both_seen lab listed counted n (Some p) a (Some q) b = refl
 
 pub not_looked_at : NotLookedAt
-not_looked_at ma a mb b listed before now r c = go ma mb c
+not_looked_at lab ma a mb b listed before now r c = go ma mb c
   where
-    go : (ma mb : Option ConversionPattern) → CombinedAs (ct_input ma mb) ma (arrays_seen ma a) mb (arrays_seen mb b) listed before now r → CombinedAs (ct_input ma mb) ma a mb b listed before now r
-    go None None c = record { answered = c.answered; outputs = rw (both_seen listed uncounted (min (length a.bases) (length b.bases)) None a None b) at c.outputs }
-    go None (Some q) c = record { answered = c.answered; outputs = rw (both_seen listed uncounted (min (length a.bases) (length b.bases)) None a (Some q) b) at c.outputs }
-    go (Some p) None c = record { answered = c.answered; outputs = rw (both_seen listed uncounted (min (length a.bases) (length b.bases)) (Some p) a None b) at c.outputs }
+    go : (ma mb : Option ConversionPattern) → CombinedAs lab (ct_input ma mb) ma (arrays_seen ma a) mb (arrays_seen mb b) listed before now r → CombinedAs lab (ct_input ma mb) ma a mb b listed before now r
+    go None None c = record { answered = c.answered; outputs = rw (both_seen lab listed uncounted (min (length a.bases) (length b.bases)) None a None b) at c.outputs }
+    go None (Some q) c = record { answered = c.answered; outputs = rw (both_seen lab listed uncounted (min (length a.bases) (length b.bases)) None a (Some q) b) at c.outputs }
+    go (Some p) None c = record { answered = c.answered; outputs = rw (both_seen lab listed uncounted (min (length a.bases) (length b.bases)) (Some p) a None b) at c.outputs }
     go (Some p) (Some q) c = record { answered = c.answered; outputs = c.outputs }

@@ -15,6 +15,7 @@ use Rattle.refusals.specs.Outcome.{answer}
 use Rattle.refusals.proofs.Outcome.{refused_by, passed_by}
 use Rattle.refusals.proofs.Claims.{none_lost}
 use Rattle.refusals.proofs.Condition.{Every, neither}
+use Rattle.settings.specs.declared.GivenSettings.{GivenSettings}
 use Rattle.methylation.specs.Arrays.{three, evidence_lengths, PutsEvidence}
 use Rattle.methylation.specs.Methylation.{is_annotated}
 use Rattle.methylation.specs.declared.ConversionPattern.TheVariants.{CToT, GToA}
@@ -76,29 +77,29 @@ module _ (ma : Option ConversionPattern) (a : Arrays) (mb : Option ConversionPat
       let (none, same) = passed_by _ _ (sym h) in
       subst (λ (m : ℕ). Room ma a mb b out m) same (common_room none)
 
-module _ {ct : CtInput} {ma : Option ConversionPattern} {a : Arrays} {mb : Option ConversionPattern} {b : Arrays} {listed : Bool} {before : RecordArrays} where
+module _ {lab : GivenSettings} {ct : CtInput} {ma : Option ConversionPattern} {a : Arrays} {mb : Option ConversionPattern} {b : Arrays} {listed : Bool} {before : RecordArrays} where
   pub refused_as :
       {e : Refusal} {r : Result ℕ Refusal}
       → Err e ≡ answer (combine_refused ma a mb b before) (common_length (lengths ma a) (lengths mb b))
       → r ≡ Err e
-      → CombinedAs ct ma a mb b listed before before r
+      → CombinedAs lab ct ma a mb b listed before before r
   refused_as {e} h same = record {
     answered = same ∙ h;
-    outputs = subst (λ (row : Option Refusal). LeavesRecord row (both_arrays listed uncounted (common_length (lengths ma a) (lengths mb b)) ct ma a mb b) before before) (sym (refused_by _ _ (sym h))) (record_refused e _ before);
+    outputs = subst (λ (row : Option Refusal). LeavesRecord row (both_arrays lab listed uncounted (common_length (lengths ma a) (lengths mb b)) ct ma a mb b) before before) (sym (refused_by _ _ (sym h))) (record_refused e _ before);
   }
 
   written_as :
       {n : ℕ} {now : RecordArrays}
       → Ok n ≡ answer (combine_refused ma a mb b before) (common_length (lengths ma a) (lengths mb b))
-      → PutsRecord (both_arrays listed uncounted n ct ma a mb b) before now
-      → CombinedAs ct ma a mb b listed before now (Ok n)
+      → PutsRecord (both_arrays lab listed uncounted n ct ma a mb b) before now
+      → CombinedAs lab ct ma a mb b listed before now (Ok n)
   written_as {n} {now} h puts =
       let (none, same) = passed_by _ _ (sym h) in
-      let at_n : LeavesRecord (combine_refused ma a mb b before) (both_arrays listed uncounted n ct ma a mb b) before now =
-      subst (λ (row : Option Refusal). LeavesRecord row (both_arrays listed uncounted n ct ma a mb b) before now) (sym none) (record_passed puts) in
+      let at_n : LeavesRecord (combine_refused ma a mb b before) (both_arrays lab listed uncounted n ct ma a mb b) before now =
+      subst (λ (row : Option Refusal). LeavesRecord row (both_arrays lab listed uncounted n ct ma a mb b) before now) (sym none) (record_passed puts) in
       record {
         answered = h;
-        outputs = subst (λ (m : ℕ). LeavesRecord (combine_refused ma a mb b before) (both_arrays listed uncounted m ct ma a mb b) before now) (sym same) at_n;
+        outputs = subst (λ (m : ℕ). LeavesRecord (combine_refused ma a mb b before) (both_arrays lab listed uncounted m ct ma a mb b) before now) (sym same) at_n;
       }
 
 -- There may be calls only where both strands are annotated.
@@ -149,15 +150,15 @@ module _ {ma : Option ConversionPattern} {a : Arrays} {mb : Option ConversionPat
       long_enough n false _ _ never (r.strand_a.bases, (r.strand_b.bases, (s.1, (s.2, r.outputs.b k))))
 
 -- What a call answers and leaves whose arrays and errors are written, and the evidence of A and of B.
-module _ {ct : CtInput} {ma : Option ConversionPattern} {a : Arrays} {mb : Option ConversionPattern} {b : Arrays} {listed : Bool} {before now : RecordArrays} {n : ℕ} where
+module _ {lab : GivenSettings} {ct : CtInput} {ma : Option ConversionPattern} {a : Arrays} {mb : Option ConversionPattern} {b : Arrays} {listed : Bool} {before now : RecordArrays} {n : ℕ} where
   pub combined_as :
       Ok n ≡ answer (combine_refused ma a mb b before) (common_length (lengths ma a) (lengths mb b))
       → ct ≡ ct_input ma mb
-      → PositionsAs n ct a b before.bases before.quals now.bases now.quals
+      → PositionsAs lab.ceiling n ct a b before.bases before.quals now.bases now.quals
       → ErrorsAs listed n ct a b before.errors now.errors
       → PutsEvidence (kept_evidence n ct a b ma a) before.a now.a
       → PutsEvidence (kept_evidence n ct a b mb b) before.b now.b
-      → CombinedAs ct ma a mb b listed before now (Ok n)
+      → CombinedAs lab ct ma a mb b listed before now (Ok n)
   combined_as told meant positions errors first second =
       let r = room ma a mb b before told in
       written_as told (record {

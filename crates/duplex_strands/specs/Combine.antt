@@ -4,6 +4,7 @@ use Rattle.refusals.specs.declared.Refusal.{Refusal}
 use Rattle.refusals.specs.declared.Refusal.TheVariants.{TooLong, Ragged, OutputTooShort}
 use Rattle.refusals.specs.Refusal.{Fault, ◌if◌, refused}
 use Rattle.refusals.specs.Outcome.{answer}
+use Rattle.settings.specs.declared.GivenSettings.{GivenSettings}
 use Rattle.methylation.specs.Arrays.{EvidenceArrays, evidence_arrays}
 use Rattle.vanilla_caller.specs.Strand.{Arrays, lengths, strand_too_long, strand_ragged}
 use Rattle.vanilla_caller.specs.declared.Lengths.{Lengths}
@@ -24,11 +25,11 @@ abbrev pub kept_evidence : ℕ → CtInput → Arrays → Arrays → Option Conv
 kept_evidence n ct a b annotation s =
     evidence_arrays (kept_marks n ct a b annotation s) (kept_unconverted n ct a b annotation s) (kept_converted n ct a b annotation s)
 
--- What is written of two strands.
-abbrev pub both_arrays : Bool → (ℕ → ℕ) → ℕ → CtInput → Option ConversionPattern → Arrays → Option ConversionPattern → Arrays → RecordArrays
-both_arrays listed counted n ct ma a mb b = record {
-  bases = combined_bases n ct a b;
-  quals = combined_quals n ct a b;
+-- What is written of two strands, by a lab's settings.
+abbrev pub both_arrays : GivenSettings → Bool → (ℕ → ℕ) → ℕ → CtInput → Option ConversionPattern → Arrays → Option ConversionPattern → Arrays → RecordArrays
+both_arrays lab listed counted n ct ma a mb b = record {
+  bases = combined_bases lab.ceiling n ct a b;
+  quals = combined_quals lab.ceiling n ct a b;
   errors = combined_errors listed counted n ct a b;
   a = kept_evidence n ct a b ma a;
   b = kept_evidence n ct a b mb b;
@@ -46,6 +47,6 @@ abbrev pub combine_refused : Option ConversionPattern → Arrays → Option Conv
 combine_refused ma a mb b out = refused (combine_faults (lengths ma a) (lengths mb b) (record_lengths ma mb out))
 
 -- What a call that combines two strands answers and leaves in its outputs.
-pub record CombinedAs (ct : CtInput) (ma : Option ConversionPattern) (a : Arrays) (mb : Option ConversionPattern) (b : Arrays) (listed : Bool) (before now : RecordArrays) (r : Result ℕ Refusal) : Type 0 where
+pub record CombinedAs (lab : GivenSettings) (ct : CtInput) (ma : Option ConversionPattern) (a : Arrays) (mb : Option ConversionPattern) (b : Arrays) (listed : Bool) (before now : RecordArrays) (r : Result ℕ Refusal) : Type 0 where
   pub answered : r ≡ answer (combine_refused ma a mb b before) (common_length (lengths ma a) (lengths mb b))
-  pub outputs : LeavesRecord (combine_refused ma a mb b before) (both_arrays listed uncounted (common_length (lengths ma a) (lengths mb b)) ct ma a mb b) before now
+  pub outputs : LeavesRecord (combine_refused ma a mb b before) (both_arrays lab listed uncounted (common_length (lengths ma a) (lengths mb b)) ct ma a mb b) before now
