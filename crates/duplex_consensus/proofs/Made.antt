@@ -24,6 +24,7 @@ use Rattle.refusals.specs.Outcome.{answer, after}
 use Rattle.refusals.proofs.Claims.{none_lost}
 use Rattle.refusals.proofs.Condition.{neither, not_too_long}
 use Rattle.caller.specs.Short.{short}
+use Rattle.settings.specs.declared.GivenSettings.{GivenSettings}
 use Rattle.vanilla_caller.specs.Strand.{lengths, four}
 use Rattle.vanilla_caller.proofs.Strand.{even}
 use Rattle.duplex_molecule.specs.Molecule.{ct_input}
@@ -131,30 +132,30 @@ module _ (a b : Strand) (reads : List SourceRead) (bytes : List ℕ) (before : R
         ∙ put_equal before.errors (tabulate_equal n _ counted (λ i l. held z k i))
 
     -- The errors, by the number of the refusal and the record's kind.
-    errors : (listed : Bool) (row : Option Refusal) (kind : Option DuplexConsensus) {r : Result (Option DuplexConsensus) Refusal}
+    errors : (lab : GivenSettings) (listed : Bool) (row : Option Refusal) (kind : Option DuplexConsensus) {r : Result (Option DuplexConsensus) Refusal}
         → refused listed outside ≡ row
         → kind_of a b ≡ kind
         → r ≡ answer row kind
-        → made ≡ after row (record_arrays a b listed uncounted kind).errors before.errors
+        → made ≡ after row (record_arrays lab a b listed uncounted kind).errors before.errors
         → p ≡ counted_positions listed r
-        → us ≡ after row (record_arrays a b listed counted kind).errors before.errors
+        → us ≡ after row (record_arrays lab a b listed counted kind).errors before.errors
     unfolding combined_errors
-    errors listed (Some row) kind z k s f q = as_made (q ∙ ap (counted_positions listed) s) ∙ f
-    errors listed None None z k s f q = as_made (q ∙ ap (counted_positions listed) s) ∙ f
-    errors listed None (Some (Ab n)) z k s f q = as_made (q ∙ ap (counted_positions listed) s) ∙ f
-    errors listed None (Some (Ba n)) z k s f q = as_made (q ∙ ap (counted_positions listed) s) ∙ f
-    errors true None (Some (Both n)) z k s f q = as_counted z k f (q ∙ ap (counted_positions true) s)
-    errors false None (Some (Both n)) z k s f q = as_made (q ∙ ap (counted_positions false) s) ∙ f
+    errors lab listed (Some row) kind z k s f q = as_made (q ∙ ap (counted_positions listed) s) ∙ f
+    errors lab listed None None z k s f q = as_made (q ∙ ap (counted_positions listed) s) ∙ f
+    errors lab listed None (Some (Ab n)) z k s f q = as_made (q ∙ ap (counted_positions listed) s) ∙ f
+    errors lab listed None (Some (Ba n)) z k s f q = as_made (q ∙ ap (counted_positions listed) s) ∙ f
+    errors lab true None (Some (Both n)) z k s f q = as_counted z k f (q ∙ ap (counted_positions true) s)
+    errors lab false None (Some (Both n)) z k s f q = as_made (q ∙ ap (counted_positions false) s) ∙ f
 
 -- All but the errors is what it was, whatever is counted.
 abbrev pub with_errors : List ℕ → RecordArrays → RecordArrays
 with_errors us r = record { bases = r.bases; quals = r.quals; errors = us; a = r.a; b = r.b }
 
-only_errors : (a b : Strand) (listed : Bool) (f g : ℕ → ℕ) (kind : Option DuplexConsensus) → with_errors (record_arrays a b listed g kind).errors (record_arrays a b listed f kind) ≡ record_arrays a b listed g kind
-only_errors a b listed f g None = refl
-only_errors a b listed f g (Some (Ab n)) = refl
-only_errors a b listed f g (Some (Ba n)) = refl
-only_errors a b listed f g (Some (Both n)) = refl
+only_errors : (lab : GivenSettings) (a b : Strand) (listed : Bool) (f g : ℕ → ℕ) (kind : Option DuplexConsensus) → with_errors (record_arrays lab a b listed g kind).errors (record_arrays lab a b listed f kind) ≡ record_arrays lab a b listed g kind
+only_errors lab a b listed f g None = refl
+only_errors lab a b listed f g (Some (Ab n)) = refl
+only_errors lab a b listed f g (Some (Ba n)) = refl
+only_errors lab a b listed f g (Some (Both n)) = refl
 
 leaves_errors : (row : Option Refusal) (w : RecordArrays) {us xs : List ℕ} {before made : RecordArrays}
     → LeavesRecord row w before made
@@ -169,19 +170,19 @@ leaves_errors row w l e = record {
 }
 
 pub counted_as :
-    (a b : Strand) (listed : Bool) (reads : List SourceRead) (bytes : List ℕ) (before made : RecordArrays) {r : Result (Option DuplexConsensus) Refusal} {leaving : Bool} {p : ℕ} {us : List ℕ}
+    (lab : GivenSettings) (a b : Strand) (listed : Bool) (reads : List SourceRead) (bytes : List ℕ) (before made : RecordArrays) {r : Result (Option DuplexConsensus) Refusal} {leaving : Bool} {p : ℕ} {us : List ℕ}
     → leaving ≡ (listed && any_leaves (length bytes) reads)
-    → DuplexAs a b listed (length reads) leaving uncounted before made r
+    → DuplexAs lab a b listed (length reads) leaving uncounted before made r
     → p ≡ counted_positions listed r
     → us ≡ counted_errors reads bytes (combined_of a b p) made.errors
-    → ConsensusAs a b listed reads bytes before (with_errors us made) r
-counted_as a b listed reads bytes before made {r} l d q e =
+    → ConsensusAs lab a b listed reads bytes before (with_errors us made) r
+counted_as lab a b listed reads bytes before made {r} l d q e =
     let f = counted a b reads bytes before in
     let number = refused a b reads bytes before listed (outside a b reads bytes before) in
     let same : duplex_refused a b listed (length reads) _ before ≡ number = ap (λ (x : Bool). duplex_refused a b listed (length reads) x before) l ∙ same_refusal a b reads bytes before listed in
     let answered : r ≡ answer number (kind_of a b) = d.answered ∙ ap (λ (n : Option Refusal). answer n (kind_of a b)) same in
-    let left : LeavesRecord number (record_arrays a b listed uncounted (kind_of a b)) before made = rw (← same) d.outputs in
+    let left : LeavesRecord number (record_arrays lab a b listed uncounted (kind_of a b)) before made = rw (← same) d.outputs in
     record {
       answered = answered;
-      outputs = rw (← only_errors a b listed uncounted f (kind_of a b)) (leaves_errors number _ left (errors a b reads bytes before e listed number (kind_of a b) refl refl answered left.errors q));
+      outputs = rw (← only_errors lab a b listed uncounted f (kind_of a b)) (leaves_errors number _ left (errors a b reads bytes before e lab listed number (kind_of a b) refl refl answered left.errors q));
     }

@@ -15,6 +15,7 @@ use Rattle.refusals.specs.declared.Refusal.{Refusal}
 use Rattle.refusals.specs.declared.Refusal.TheVariants.{Broken}
 use Rattle.methylation.specs.declared.ConversionPattern.{ConversionPattern}
 use Rattle.methylation.specs.Choices.{annotation_of, wrong_annotation}
+use Rattle.settings.specs.declared.GivenSettings.{GivenSettings}
 use Rattle.replies.specs.Choices.{yes}
 use Rattle.vanilla_caller.specs.Strand.{Arrays, arrays, arrays_seen}
 use Rattle.duplex_outputs.specs.Outputs.{RecordArrays}
@@ -64,19 +65,19 @@ is_listed false count leaving = refl
 
 -- A list that is not there is not looked at.
 pub list_by :
-    (a b : Strand) (listed : Bool) (count : ℕ) (leaving : Bool) {list : Option GivenReads} {before now : RecordArrays} {r : Result (Option DuplexConsensus) Refusal}
+    (lab : GivenSettings) (a b : Strand) (listed : Bool) (count : ℕ) (leaving : Bool) {list : Option GivenReads} {before now : RecordArrays} {r : Result (Option DuplexConsensus) Refusal}
     → list ≡ given_list listed count leaving
-    → DuplexAs a b (is_some list) (count_in list) (leaving_in list) uncounted before now r
-    → DuplexAs a b listed count (listed && leaving) uncounted before now r
-list_by a b listed count leaving {list} {before} {now} {r} e d = go listed (subst (λ (l : Option GivenReads). DuplexAs a b (is_some l) (count_in l) (leaving_in l) uncounted before now r) e d)
+    → DuplexAs lab a b (is_some list) (count_in list) (leaving_in list) uncounted before now r
+    → DuplexAs lab a b listed count (listed && leaving) uncounted before now r
+list_by lab a b listed count leaving {list} {before} {now} {r} e d = go listed (subst (λ (l : Option GivenReads). DuplexAs lab a b (is_some l) (count_in l) (leaving_in l) uncounted before now r) e d)
   where
-    go : (listed : Bool) → (let list = given_list listed count leaving in DuplexAs a b (is_some list) (count_in list) (leaving_in list) uncounted before now r) → DuplexAs a b listed count (listed && leaving) uncounted before now r
+    go : (listed : Bool) → (let list = given_list listed count leaving in DuplexAs lab a b (is_some list) (count_in list) (leaving_in list) uncounted before now r) → DuplexAs lab a b listed count (listed && leaving) uncounted before now r
     go true d = d
-    go false d = (not_looked_at uncounted uncounted false 0 false before now r).list a b count false d
+    go false d = (not_looked_at lab uncounted uncounted false 0 false before now r).list a b count false d
 
-module _ (listed : Bool) (reads : List SourceRead) (bytes : List ℕ) (before now : RecordArrays) (r : Result (Option DuplexConsensus) Refusal) where
+module _ (lab : GivenSettings) (listed : Bool) (reads : List SourceRead) (bytes : List ℕ) (before now : RecordArrays) (r : Result (Option DuplexConsensus) Refusal) where
   abbrev As : Strand → Strand → Type 0
-  As a b = ConsensusAs a b listed reads bytes before now r
+  As a b = ConsensusAs lab a b listed reads bytes before now r
 
   abbrev errors : Strand → Strand → ℕ → ℕ
   errors a b = list_errors reads bytes (ct_input a.annotation b.annotation) a.arrays b.arrays
@@ -91,7 +92,7 @@ module _ (listed : Bool) (reads : List SourceRead) (bytes : List ℕ) (before no
       subst (λ (s : Strand). As s b) same d
   first_by false v m x {s} {b} h d =
       let same : s ≡ given_of None = cc in
-      (not_looked_at (errors (given_of None) b) (errors (strand false m x) b) listed (length reads) leaving before now r).first None m none x b (subst (λ (s : Strand). As s b) same d)
+      (not_looked_at lab (errors (given_of None) b) (errors (strand false m x) b) listed (length reads) leaving before now r).first None m none x b (subst (λ (s : Strand). As s b) same d)
 
   second_by : (p v : Bool) (m : Option ConversionPattern) (x : Arrays) {s a : Strand} → by p v m x ≡ Ok s → As a s → As a (strand p m x)
   second_by true true m x h d = absurd cc
@@ -100,7 +101,7 @@ module _ (listed : Bool) (reads : List SourceRead) (bytes : List ℕ) (before no
       subst (λ (s : Strand). As a s) same d
   second_by false v m x {s} {a} h d =
       let same : s ≡ given_of None = cc in
-      (not_looked_at (errors a (given_of None)) (errors a (strand false m x)) listed (length reads) leaving before now r).second a None m none x (subst (λ (s : Strand). As a s) same d)
+      (not_looked_at lab (errors a (given_of None)) (errors a (strand false m x)) listed (length reads) leaving before now r).second a None m none x (subst (λ (s : Strand). As a s) same d)
 
   pub numbered :
       (p m q n : ℕ) (x y : Arrays) {s t : Strand}
@@ -113,5 +114,5 @@ module _ (listed : Bool) (reads : List SourceRead) (bytes : List ℕ) (before no
       let a = strand (yes p) (annotation_of m) x in
       let b = strand (yes q) (annotation_of n) y in
       let by_first = first_by (yes p) (wrong_annotation m) (annotation_of m) (arrays_seen (annotation_of m) x) e d in
-      (not_looked_at (errors a b) (errors a b) listed (length reads) leaving before now r).evidence a b
+      (not_looked_at lab (errors a b) (errors a b) listed (length reads) leaving before now r).evidence a b
       (second_by (yes q) (wrong_annotation n) (annotation_of n) (arrays_seen (annotation_of n) y) f by_first)

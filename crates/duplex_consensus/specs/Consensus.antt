@@ -1,9 +1,12 @@
 -- The duplex record with its source reads, document 01, and what the entry over numbers makes of it.
 use Rattle.std.specs.Prelude.{ℕ, Bool, cond, Option, Some, None, Result, Ok, Err, List, length}
 use Rattle.refusals.specs.declared.Refusal.{Refusal}
-use Rattle.refusals.specs.declared.Refusal.TheVariants.{Broken}
+use Rattle.refusals.specs.Refusal.{refused}
 use Rattle.caller.specs.Short.{short}
-use Rattle.replies.specs.Replies.{RepliedAs}
+use Rattle.settings.specs.Settings.{told_faults}
+use Rattle.settings.specs.declared.GivenSettings.{GivenSettings}
+use Rattle.replies.specs.Choices.{yes}
+use Rattle.replies.specs.Replies.{RefusedOr}
 use Rattle.vanilla_caller.specs.Strand.{Arrays}
 use Rattle.duplex_molecule.specs.Molecule.{ct_input}
 use Rattle.duplex_molecule.specs.declared.CtInput.{CtInput}
@@ -13,8 +16,9 @@ use Rattle.duplex_kind.specs.declared.DuplexConsensus.{DuplexConsensus}
 use Rattle.duplex_kind.specs.declared.GivenReads.{GivenReads}
 use Rattle.duplex_kind.specs.declared.DuplexConsensus.TheVariants.{Ab, Ba, Both}
 use Rattle.duplex_reply.specs.Reply.{record_for}
-pub use Rattle.duplex_reply.specs.Strand.{wrong_strand}
+use Rattle.duplex_reply.specs.Strand.{wrong_molecule, told_strand}
 use Rattle.duplex_reply.specs.declared.DuplexRecord.{DuplexRecord}
+use Rattle.duplex_reply.specs.declared.ToldMolecule.{ToldMolecule}
 use Rattle.duplex_record.specs.Record.{DuplexAs}
 use Rattle.source_reads.specs.Arrays.{BaseArrays, CombinedArrays}
 use Rattle.source_reads.specs.Reads.{any_leaves, read_errors, expected_at}
@@ -51,11 +55,14 @@ given_in None = None
 given_in (Some list) = Some (record { count = length list.reads.now; leaving = any_leaves (length list.bytes.now) list.reads.now })
 
 -- What a call answers and leaves in its outputs.
-abbrev pub ConsensusAs : Strand → Strand → Bool → List SourceRead → List ℕ → RecordArrays → RecordArrays → Result (Option DuplexConsensus) Refusal → Type 0
-ConsensusAs a b listed reads bytes before now r =
-    DuplexAs a b listed (length reads) (any_leaves (length bytes) reads)
+abbrev pub ConsensusAs : GivenSettings → Strand → Strand → Bool → List SourceRead → List ℕ → RecordArrays → RecordArrays → Result (Option DuplexConsensus) Refusal → Type 0
+ConsensusAs lab a b listed reads bytes before now r =
+    DuplexAs lab a b listed (length reads) (any_leaves (length bytes) reads)
     (list_errors reads bytes (ct_input a.annotation b.annotation) a.arrays b.arrays) before now r
 
--- What the entry answers and leaves: 13 and nothing, where a strand is wrong; else all that, with the answer as numbers.
-abbrev pub EntryAs : Bool → Strand → Strand → Bool → List SourceRead → List ℕ → RecordArrays → RecordArrays → DuplexRecord → Type 0
-EntryAs wrong a b listed reads bytes = RepliedAs wrong (record_for (Err Broken)) record_for (ConsensusAs a b listed reads bytes)
+-- What the entry answers and leaves of a molecule that it is told of, with the arrays of its strands: 13 or 14 and nothing, where a
+-- number of it refuses; else all that, with the answer as numbers.
+abbrev pub EntryAs : ToldMolecule → Arrays → Arrays → List SourceRead → List ℕ → RecordArrays → RecordArrays → DuplexRecord → Type 0
+EntryAs m a b reads bytes =
+    RefusedOr (refused (told_faults (wrong_molecule m) m.settings)) record_for
+    (ConsensusAs m.settings (told_strand m.a a) (told_strand m.b b) (yes m.listed) reads bytes)

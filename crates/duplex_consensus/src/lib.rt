@@ -1,23 +1,20 @@
 // The duplex record with its source reads, from duplex_caller.rs (duplex_consensus), as an entry point over numbers: the record, and
-// where there is a list the errors that are counted of its reads. Uses refusals, methylation, vanilla_caller, duplex_molecule,
-// duplex_outputs, duplex_kind, duplex_reply, duplex_record and source_reads, and definitions of
-// caller and replies.
+// where there is a list the errors that are counted of its reads. Uses refusals, methylation, settings, vanilla_caller,
+// duplex_molecule, duplex_outputs, duplex_kind, duplex_reply, duplex_record and source_reads, and definitions of caller and replies.
 #![tactic(auto)]
 
-ghost use Rattle.std.specs.Prelude.{◌≡◌, ◌||◌};
-ghost use Rattle.methylation.specs.Choices.{annotation_of};
-ghost use Rattle.replies.specs.Choices.{yes};
+ghost use Rattle.std.specs.Prelude.{◌≡◌};
 ghost use Rattle.vanilla_caller.specs.Strand.{arrays};
 ghost use Rattle.duplex_outputs.specs.Outputs.{record_of};
-ghost use Rattle.duplex_kind.specs.Kind.{strand, given_of};
+ghost use Rattle.duplex_kind.specs.Kind.{given_of};
 ghost use Rattle.source_reads.specs.Arrays.{bases_in, combined_in};
-ghost use Rattle.duplex_consensus.specs.Consensus.{wrong_strand, bases_of, combined_of, counted_positions, given_in, EntryAs};
+ghost use Rattle.duplex_consensus.specs.Consensus.{bases_of, combined_of, counted_positions, given_in, EntryAs};
 
 use duplex_kind::{DuplexConsensus, GivenReads};
 use duplex_molecule::ct_input;
 use duplex_outputs::RecordOutputs;
 use duplex_record::duplex_record;
-use duplex_reply::{DuplexRecord, strand_in};
+use duplex_reply::{DuplexRecord, ToldMolecule, strand_in};
 use methylation::{EvidenceOutputs, EvidenceSlices};
 use refusals::Refusal;
 use source_reads::{
@@ -85,29 +82,24 @@ fn given_list(list: Option<SourceReads>) -> Option<GivenReads>
 }
 
 // The record of two strands, of one or of none, with the source reads where they are listed. One strand alone goes to the first
-// strand's outputs. Present and listed: 0 is no, any other number yes; an annotation: 0 is none, 1 C to T, 2 G to A, and is not looked
-// at of a strand that is not present. Refuses by 13, then 7, 8, 9, 10 whatever the record, then by 12 for what is written.
+// strand's outputs. Refuses by 13, then 14, 7, 8, 9, 10 whatever the record, then by 12 for what is written.
 #[unsafe(no_mangle)]
 pub extern "C" fn gedrashiw_duplex_consensus_typed(
-    a_present: u8,
+    molecule: ToldMolecule,
     a_bases: &[u8],
     a_quals: &[u8],
     a_depths: &[u16],
     a_errors: &[u16],
-    a_annotation: u8,
     a_marks: &[u8],
     a_unconverted: &[u32],
     a_converted: &[u32],
-    b_present: u8,
     b_bases: &[u8],
     b_quals: &[u8],
     b_depths: &[u16],
     b_errors: &[u16],
-    b_annotation: u8,
     b_marks: &[u8],
     b_unconverted: &[u32],
     b_converted: &[u32],
-    listed: u8,
     reads: &[SourceRead],
     bytes: &[u8],
     bases_out: &mut [u8],
@@ -120,30 +112,34 @@ pub extern "C" fn gedrashiw_duplex_consensus_typed(
     b_unconverted_out: &mut [u32],
     b_converted_out: &mut [u32],
 ) -> DuplexRecord
-    ensures { EntryAs (wrong_strand a_present a_annotation || wrong_strand b_present b_annotation)
-        (strand (yes a_present) (annotation_of a_annotation) (arrays a_bases.now a_quals.now a_depths.now a_errors.now a_marks.now a_unconverted.now a_converted.now))
-        (strand (yes b_present) (annotation_of b_annotation) (arrays b_bases.now b_quals.now b_depths.now b_errors.now b_marks.now b_unconverted.now b_converted.now))
-        (yes listed) reads.now bytes.now
+    ensures { EntryAs molecule
+        (arrays a_bases.now a_quals.now a_depths.now a_errors.now a_marks.now a_unconverted.now a_converted.now)
+        (arrays b_bases.now b_quals.now b_depths.now b_errors.now b_marks.now b_unconverted.now b_converted.now)
+        reads.now bytes.now
         (record_of bases_out.old quals_out.old errors_out.old a_marks_out.old a_unconverted_out.old a_converted_out.old b_marks_out.old b_unconverted_out.old b_converted_out.old)
         (record_of bases_out.new quals_out.new errors_out.new a_marks_out.new a_unconverted_out.new a_converted_out.new b_marks_out.new b_unconverted_out.new b_converted_out.new)
         result }
 {
     let a = VanillaConsensusRead::new(a_bases, a_quals, a_depths, a_errors);
     let a_evidence = EvidenceSlices::new(a_marks, a_unconverted, a_converted);
-    // No `?`, here and for B: no plainer, a function between would have this contract once more, over a Result. A closure was tried in
+    // No `?`, here and below: no plainer, a function between would have this contract once more, over a Result. A closure was tried in
     // rust_padded.
-    let a = match strand_in(a_present, a_annotation, a, a_evidence) {
+    let a = match strand_in(molecule.a.present, molecule.a.annotation, a, a_evidence) {
         Ok(a) => a,
         Err(refusal) => return DuplexRecord::from(refusal),
     };
     let b = VanillaConsensusRead::new(b_bases, b_quals, b_depths, b_errors);
     let b_evidence = EvidenceSlices::new(b_marks, b_unconverted, b_converted);
-    let b = match strand_in(b_present, b_annotation, b, b_evidence) {
+    let b = match strand_in(molecule.b.present, molecule.b.annotation, b, b_evidence) {
         Ok(b) => b,
         Err(refusal) => return DuplexRecord::from(refusal),
     };
+    let settings = match molecule.settings.tested() {
+        Ok(settings) => settings,
+        Err(refusal) => return DuplexRecord::from(refusal),
+    };
     let reads = SourceReads { reads, bytes };
-    let list = given_list((listed != 0).then_some(reads));
+    let list = given_list((molecule.listed != 0).then_some(reads));
     let mut out = RecordOutputs {
         bases: bases_out,
         quals: quals_out,
@@ -159,7 +155,7 @@ pub extern "C" fn gedrashiw_duplex_consensus_typed(
         unconverted: b_unconverted_out,
         converted: b_converted_out,
     };
-    let made = duplex_record(a, b, list, &mut out, &mut a_out, &mut b_out);
+    let made = duplex_record(settings, a, b, list, &mut out, &mut a_out, &mut b_out);
     let s = combined_bases(a, b, counted_positions(made, list.is_some()));
     count_read_errors(reads, s, out.errors);
     DuplexRecord::from(made)

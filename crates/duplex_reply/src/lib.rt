@@ -1,5 +1,5 @@
-// A strand that numbers tell of, and the kind of a duplex record and its length as numbers, for the entry points that programs link.
-// Uses refusals, methylation, replies, vanilla_caller and duplex_kind.
+// A strand and a molecule that numbers tell of, and the kind of a duplex record and its length as numbers, for the entry points that
+// programs link. Uses refusals, methylation, settings, replies, vanilla_caller and duplex_kind.
 #![tactic(auto)]
 
 ghost use Rattle.std.specs.Prelude.{◌≡◌};
@@ -14,6 +14,7 @@ use duplex_kind::DuplexConsensus;
 use methylation::EvidenceSlices;
 use refusals::Refusal;
 use replies::annotation_in;
+use settings::GivenSettings;
 use vanilla_caller::VanillaConsensusRead;
 
 // What a duplex record is: `refused` is the refusal's number, 0 for none; kind 0 is no record, 1 strand A alone, 2 strand B alone,
@@ -66,9 +67,28 @@ impl From<Result<Option<DuplexConsensus>, Refusal>> for DuplexRecord {
     }
 }
 
-// A strand as numbers tell of it, with the evidence that stands beside it: 0 is not present, any other number is; an annotation is 0 for
-// none, 1 for C to T, 2 for G to A, and is not looked at of a strand that is not present, nor is evidence without one. One that the
-// strand has is not looked at: its number tells of it. Refuses by 13.
+// What a program tells of a strand beside its arrays. Present: 0 is no, any other number yes; an annotation: 0 is none, 1 C to T, 2 G to
+// A, and is not looked at of a strand that is not present.
+#[repr(C)]
+#[derive(Clone, Copy)]
+pub struct ToldStrand {
+    pub present: u8,
+    pub annotation: u8,
+}
+
+// And of a molecule, whose source reads may be listed: 0 is no, any other number yes.
+#[repr(C)]
+#[derive(Clone, Copy)]
+pub struct ToldMolecule {
+    pub a: ToldStrand,
+    pub b: ToldStrand,
+    pub listed: u8,
+    pub settings: GivenSettings,
+}
+
+// A strand as numbers tell of it, which are those of a ToldStrand, with the evidence that stands beside it, which is not looked at
+// without an annotation. One that the strand has is not looked at: its number tells of it. Refuses by 13.
+// By two numbers, not by a ToldStrand: the entry that says why a position shows N has them so.
 pub fn strand_in<'a>(
     present: u8,
     annotation: u8,

@@ -13,6 +13,7 @@ use Rattle.refusals.specs.declared.Refusal.{Refusal}
 use Rattle.refusals.specs.declared.Refusal.TheVariants.{Broken}
 use Rattle.refusals.specs.Outcome.{answer}
 use Rattle.refusals.proofs.Outcome.{refused_by}
+use Rattle.settings.specs.declared.GivenSettings.{GivenSettings}
 use Rattle.molecule_fields.specs.Widths.{is_run}
 use Rattle.duplex_outputs.specs.Outputs.{RecordArrays, LeavesRecord}
 use Rattle.duplex_strands.specs.Combine.{uncounted}
@@ -71,31 +72,31 @@ of_list : (a b : Strand) (there : Bool) (n : ℕ) (before : RecordArrays) → du
 of_list a b true n before = refl
 of_list a b false n before = refl
 
-module _ (a b : Strand) {there : Bool} {run : List ℕ} {list : Option GivenReads} (l : Listed there run list) {before now : RecordArrays} {r : Result (Option DuplexConsensus) Refusal} where
+module _ (lab : GivenSettings) (a b : Strand) {there : Bool} {run : List ℕ} {list : Option GivenReads} (l : Listed there run list) {before now : RecordArrays} {r : Result (Option DuplexConsensus) Refusal} where
   -- The record of the list that the code has, as the record of the run's reads.
-  pub on_list : DuplexAs a b (is_some list) (count_in list) (leaving_in list) uncounted before now r → DuplexAs a b there (length (reads_of run)) false uncounted before now r
+  pub on_list : DuplexAs lab a b (is_some list) (count_in list) (leaving_in list) uncounted before now r → DuplexAs lab a b there (length (reads_of run)) false uncounted before now r
   on_list d =
-      let e : DuplexAs a b there (cond there (length (reads_of run)) 0) false uncounted before now r = rw (l.there_is, l.count_is, l.leaving_is) at d in
+      let e : DuplexAs lab a b there (cond there (length (reads_of run)) 0) false uncounted before now r = rw (l.there_is, l.count_is, l.leaving_is) at d in
       let same = of_list a b there (length (reads_of run)) before in
       record {
         answered = e.answered ∙ ap (λ (k : Option Refusal). answer k (kind_of a b)) same;
-        outputs = subst (λ (k : Option Refusal). LeavesRecord k (record_arrays a b there uncounted (kind_of a b)) before now) same e.outputs;
+        outputs = subst (λ (k : Option Refusal). LeavesRecord k (record_arrays lab a b there uncounted (kind_of a b)) before now) same e.outputs;
       }
 
 -- A record that was refused.
 pub refused_as :
-    (a b : Strand) {there : Bool} {run : List ℕ} {list : Option GivenReads}
+    (lab : GivenSettings) (a b : Strand) {there : Bool} {run : List ℕ} {list : Option GivenReads}
     → Listed there run list
     → {before now : RecordArrays} {row : Refusal}
-    → DuplexAs a b (is_some list) (count_in list) (leaving_in list) uncounted before now (Err row)
-    → DuplexAs a b there (length (reads_of run)) false (run_errors a b run) before now (Err row)
-refused_as a b {there} {run} l {before} {now} {row} d =
-    let e = on_list a b l d in
+    → DuplexAs lab a b (is_some list) (count_in list) (leaving_in list) uncounted before now (Err row)
+    → DuplexAs lab a b there (length (reads_of run)) false (run_errors a b run) before now (Err row)
+refused_as lab a b {there} {run} l {before} {now} {row} d =
+    let e = on_list lab a b l d in
     let is : duplex_refused a b there (length (reads_of run)) false before ≡ Some row = refused_by _ _ (sym e.answered) in
-    let o : LeavesRecord (Some row) (record_arrays a b there uncounted (kind_of a b)) before now = subst (λ (k : Option Refusal). LeavesRecord k (record_arrays a b there uncounted (kind_of a b)) before now) is e.outputs in
+    let o : LeavesRecord (Some row) (record_arrays lab a b there uncounted (kind_of a b)) before now = subst (λ (k : Option Refusal). LeavesRecord k (record_arrays lab a b there uncounted (kind_of a b)) before now) is e.outputs in
     record {
       answered = e.answered;
-      outputs = subst (λ (k : Option Refusal). LeavesRecord k (record_arrays a b there (run_errors a b run) (kind_of a b)) before now) (sym is)
+      outputs = subst (λ (k : Option Refusal). LeavesRecord k (record_arrays lab a b there (run_errors a b run) (kind_of a b)) before now) (sym is)
           (record {
             bases = o.bases;
             quals = o.quals;
@@ -111,12 +112,12 @@ none_leaves_listed false run = refl
 
 -- A record that was made, with its errors counted.
 pub made_as :
-    (a b : Strand) {there : Bool} {run : List ℕ} {list : Option GivenReads}
+    (lab : GivenSettings) (a b : Strand) {there : Bool} {run : List ℕ} {list : Option GivenReads}
     → Listed there run list
     → (before now : RecordArrays) {made : Option DuplexConsensus} {us : List ℕ}
-    → DuplexAs a b (is_some list) (count_in list) (leaving_in list) uncounted before now (Ok made)
+    → DuplexAs lab a b (is_some list) (count_in list) (leaving_in list) uncounted before now (Ok made)
     → us ≡ counted_errors (reads_of run) run (combined_of a b (counted_positions {E = Refusal} there (Ok made))) now.errors
-    → DuplexAs a b there (length (reads_of run)) false (run_errors a b run) before (with_errors us now) (Ok made)
-made_as a b {there} {run} l before now {made} {us} d u =
-    subst (λ (x : Bool). DuplexAs a b there (length (reads_of run)) x (run_errors a b run) before (with_errors us now) (Ok made)) (none_leaves run)
-    (counted_as a b there (reads_of run) run before now (none_leaves_listed there run) (on_list a b l d) refl u)
+    → DuplexAs lab a b there (length (reads_of run)) false (run_errors a b run) before (with_errors us now) (Ok made)
+made_as lab a b {there} {run} l before now {made} {us} d u =
+    subst (λ (x : Bool). DuplexAs lab a b there (length (reads_of run)) x (run_errors a b run) before (with_errors us now) (Ok made)) (none_leaves run)
+    (counted_as lab a b there (reads_of run) run before now (none_leaves_listed there run) (on_list lab a b l d) refl u)

@@ -1,1 +1,2 @@
+pub mod Annotations
 pub mod ReadBack

@@ -1,11 +1,13 @@
-// Entry points over numbers as they are: two strands combined, and a strand alone as a record. Uses methylation, replies,
+// Entry points over numbers as they are: two strands combined, and a strand alone as a record. Uses refusals, methylation, settings, replies,
 // vanilla_caller, duplex_molecule, duplex_outputs, duplex_strands, duplex_annotated and duplex_single.
 #![tactic(auto)]
 
 ghost use Rattle.std.specs.Prelude.{◌||◌, None, []};
+ghost use Rattle.refusals.specs.Refusal.{refused};
 ghost use Rattle.methylation.specs.Choices.{annotation_of, wrong_annotation};
+ghost use Rattle.settings.specs.Settings.{settings_faults, told_faults};
 ghost use Rattle.replies.specs.Choices.{yes};
-ghost use Rattle.replies.specs.Replies.{count_reply, not_counted, PassedOn, RepliedAs};
+ghost use Rattle.replies.specs.Replies.{count_reply, not_counted, RefusedOr, RepliedAs};
 ghost use Rattle.vanilla_caller.specs.Strand.{arrays};
 ghost use Rattle.duplex_molecule.specs.Molecule.{ct_input};
 ghost use Rattle.duplex_molecule.specs.declared.CtInput.TheVariants.{Neither};
@@ -19,11 +21,25 @@ use duplex_single::gated_single_strand;
 use duplex_strands::combine_strands;
 use methylation::{EvidenceOutputs, EvidenceSlices};
 use replies::{Count, annotation_in, annotations_in};
+use settings::GivenSettings;
 use vanilla_caller::VanillaConsensusRead;
 
-// Combines strands without annotation. Where reads are listed (listed is not 0) the errors are left 0. Refuses by 7, 8, 12.
+// What a program tells of two strands beside their arrays: an annotation is 0 for none, 1 for C to T, 2 for G to A; listed, whether the
+// errors are left 0 for reads that are listed, is 0 for no, any other number for yes.
+#[repr(C)]
+#[derive(Clone, Copy)]
+pub struct ToldStrands {
+    pub a_annotation: u8,
+    pub b_annotation: u8,
+    pub listed: u8,
+    pub settings: GivenSettings,
+}
+
+// Combines strands without annotation. Where reads are listed (listed is not 0) the errors are left 0. Refuses by 14, 7, 8, 12.
 #[unsafe(no_mangle)]
 pub extern "C" fn gedrashiw_combine_strands(
+    listed: u8,
+    settings: GivenSettings,
     a_bases: &[u8],
     a_quals: &[u8],
     a_depths: &[u16],
@@ -32,13 +48,12 @@ pub extern "C" fn gedrashiw_combine_strands(
     b_quals: &[u8],
     b_depths: &[u16],
     b_errors: &[u16],
-    listed: u8,
     bases_out: &mut [u8],
     quals_out: &mut [u8],
     errors_out: &mut [u16],
 ) -> Count
-    ensures { PassedOn count_reply
-        (CombinedAs Neither None
+    ensures { RefusedOr (refused (settings_faults settings)) count_reply
+        (CombinedAs settings Neither None
         (arrays a_bases.now a_quals.now a_depths.now a_errors.now [] [] [])
         None
         (arrays b_bases.now b_quals.now b_depths.now b_errors.now [] [] [])
@@ -47,6 +62,11 @@ pub extern "C" fn gedrashiw_combine_strands(
         (record_of bases_out.new quals_out.new errors_out.new [] [] [] [] [] [])
         result }
 {
+    // No `?`: no plainer, a function between would have this contract once more, over a Result. A closure was tried in rust_padded.
+    let settings = match settings.tested() {
+        Ok(settings) => settings,
+        Err(refusal) => return Count::from(refusal),
+    };
     let a = VanillaConsensusRead::new(a_bases, a_quals, a_depths, a_errors);
     let b = VanillaConsensusRead::new(b_bases, b_quals, b_depths, b_errors);
     let mut out = RecordOutputs {
@@ -54,17 +74,17 @@ pub extern "C" fn gedrashiw_combine_strands(
         quals: quals_out,
         errors: errors_out,
     };
-    Count::from(combine_strands(a, b, listed != 0, &mut out))
+    Count::from(combine_strands(settings, a, b, listed != 0, &mut out))
 }
 
-// Combines strands that may be annotated. Refuses by 13, 7, 8, 12.
+// Combines strands that may be annotated. Refuses by 13, 14, 7, 8, 12.
 #[unsafe(no_mangle)]
 pub extern "C" fn gedrashiw_combine_strands_annotated(
+    strands: ToldStrands,
     a_bases: &[u8],
     a_quals: &[u8],
     a_depths: &[u16],
     a_errors: &[u16],
-    a_annotation: u8,
     a_marks: &[u8],
     a_unconverted: &[u32],
     a_converted: &[u32],
@@ -72,11 +92,9 @@ pub extern "C" fn gedrashiw_combine_strands_annotated(
     b_quals: &[u8],
     b_depths: &[u16],
     b_errors: &[u16],
-    b_annotation: u8,
     b_marks: &[u8],
     b_unconverted: &[u32],
     b_converted: &[u32],
-    listed: u8,
     bases_out: &mut [u8],
     quals_out: &mut [u8],
     errors_out: &mut [u16],
@@ -87,19 +105,26 @@ pub extern "C" fn gedrashiw_combine_strands_annotated(
     b_unconverted_out: &mut [u32],
     b_converted_out: &mut [u32],
 ) -> Count
-    ensures { RepliedAs (wrong_annotation a_annotation || wrong_annotation b_annotation) (not_counted 13) count_reply
-        (CombinedAs (ct_input (annotation_of a_annotation) (annotation_of b_annotation)) (annotation_of a_annotation)
+    ensures { RefusedOr (refused (told_faults (wrong_annotation strands.a_annotation || wrong_annotation strands.b_annotation) strands.settings)) count_reply
+        (CombinedAs strands.settings (ct_input (annotation_of strands.a_annotation) (annotation_of strands.b_annotation)) (annotation_of strands.a_annotation)
         (arrays a_bases.now a_quals.now a_depths.now a_errors.now a_marks.now a_unconverted.now a_converted.now)
-        (annotation_of b_annotation)
+        (annotation_of strands.b_annotation)
         (arrays b_bases.now b_quals.now b_depths.now b_errors.now b_marks.now b_unconverted.now b_converted.now)
-        (yes listed))
+        (yes strands.listed))
         (record_of bases_out.old quals_out.old errors_out.old a_marks_out.old a_unconverted_out.old a_converted_out.old b_marks_out.old b_unconverted_out.old b_converted_out.old)
         (record_of bases_out.new quals_out.new errors_out.new a_marks_out.new a_unconverted_out.new a_converted_out.new b_marks_out.new b_unconverted_out.new b_converted_out.new)
         result }
 {
-    // No `?`: no plainer, a function between would have this contract once more, over a Result. A closure was tried in rust_padded.
-    let (a_annotation, b_annotation) = match annotations_in(a_annotation, b_annotation) {
+    // No `?`, here and below, as in gedrashiw_combine_strands.
+    let (a_annotation, b_annotation) = match annotations_in(
+        strands.a_annotation,
+        strands.b_annotation,
+    ) {
         Ok(annotations) => annotations,
+        Err(refusal) => return Count::from(refusal),
+    };
+    let settings = match strands.settings.tested() {
+        Ok(settings) => settings,
         Err(refusal) => return Count::from(refusal),
     };
     let a_evidence = EvidenceSlices::new(a_marks, a_unconverted, a_converted);
@@ -127,7 +152,8 @@ pub extern "C" fn gedrashiw_combine_strands_annotated(
         unconverted: b_unconverted_out,
         converted: b_converted_out,
     };
-    Count::from(combine_strands_annotated(a, b, listed != 0, &mut out, &mut a_out, &mut b_out))
+    let listed = strands.listed != 0;
+    Count::from(combine_strands_annotated(settings, a, b, listed, &mut out, &mut a_out, &mut b_out))
 }
 
 // A strand alone as a record. Refuses by 13, 7, 8, 12.

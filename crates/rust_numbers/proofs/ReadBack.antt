@@ -30,6 +30,7 @@ call_back_lem (Some call) = go call.pattern call.call call.confirmed
 
 pub read_back : ReadBack
 read_back = record {
+  quality = record { refusals = λ row. refl; passes = λ x. refl; answers = λ x. refl };
   bits = bit_back;
   enabled = λ met. (refl, bit_back met);
   rates = record { refusals = λ row. refl; passes = λ rate. refl; answers = λ rate. refl };

@@ -11,8 +11,9 @@ use Rattle.duplex_molecule.specs.declared.MoleculeCall.{MoleculeCall}
 use Rattle.duplex_molecule.specs.Molecule.{call_as}
 use Rattle.methylation.specs.Choices.{pattern_number, pattern_of, wrong_pattern}
 use Rattle.replies.specs.ReadBack.{AnswersBack}
-use Rattle.replies.specs.Replies.{count_reply, numbered}
+use Rattle.replies.specs.Replies.{count_reply, number_reply, numbered}
 use Rattle.replies.specs.declared.Count.{Count}
+use Rattle.replies.specs.declared.Number.{Number}
 use Rattle.rust_numbers.specs.Replies.{bit, rate_reply, bases_reply, letters_reply, call_reply}
 use Rattle.rust_numbers.specs.declared.Bases.{Bases}
 use Rattle.rust_numbers.specs.declared.Call.{Call}
@@ -31,6 +32,7 @@ pub record RatesBack : Type 0 where
 
 -- Whether a mode is one that is on is told by `enabled`: no refusal, and the number of a yes or no.
 pub record ReadBack : Type 0 where
+  pub quality : AnswersBack number_reply (λ (r : Number). r.refused) (λ (r : Number). r.number)
   pub bits : (met : Bool) → eqb (bit met) 1 ≡ met
   pub enabled : (met : Bool) → ((numbered (bit met)).refused ≡ 0) × (eqb (numbered (bit met)).number 1 ≡ met)
   pub rates : RatesBack

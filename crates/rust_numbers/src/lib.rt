@@ -4,7 +4,8 @@
 
 ghost use Rattle.std.specs.Prelude.{◌≡◌, cond, length};
 ghost use Rattle.refusals.specs.Outcome.{answer, after};
-ghost use Rattle.phred.specs.Phred.{capped_quality};
+ghost use Rattle.refusals.specs.Refusal.{refused};
+ghost use Rattle.phred.specs.Phred.{capped_quality, ceiling_faults};
 ghost use Rattle.rates.specs.Rate.{bits_of};
 ghost use Rattle.caller.specs.Short.{short, short_of};
 ghost use Rattle.caller.specs.Name.{read_name, name_refused};
@@ -24,7 +25,7 @@ use caller::{
 use duplex_molecule::{MoleculeCall, is_error, molecule_call};
 use duplex_reads::{is_paired, is_paired_r1, is_paired_r2};
 use methylation::{ConversionPattern, MethylationMode, PatternBases, is_cpg_context};
-use phred::cap_quality;
+use phred::{Ceiling, cap_quality};
 use rates::rate_bits;
 use refusals::Refusal;
 use replies::{Count, Number};
@@ -70,11 +71,12 @@ pub struct Call {
     pub confirmed: u8,
 }
 
+// A score held to 2 and a ceiling. Refuses by 14.
 #[unsafe(no_mangle)]
-pub extern "C" fn gedrashiw_cap_quality(score: u16) -> u8
-    ensures { result ≡ capped_quality score }
+pub extern "C" fn gedrashiw_cap_quality(score: u16, ceiling: u8) -> Number
+    ensures { result ≡ number_reply (answer (refused (ceiling_faults ceiling)) (capped_quality ceiling score)) }
 {
-    cap_quality(score)
+    Number::from(Ceiling::new(ceiling).map(|ceiling| u32::from(cap_quality(score, ceiling))))
 }
 
 #[unsafe(no_mangle)]
