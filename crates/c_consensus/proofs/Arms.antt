@@ -1,5 +1,5 @@
 -- What the call leaves, by the kind of record that it made.
---     kind_is          the kind, or what refuses the call for what is given
+--     kind_is          the kind and the settings, or what refuses the call for what is given
 --     none_puts, ab_puts, ba_puts, both_puts     what is written of each kind
 --     made_none, made_ab, made_ba, made_both     what is promised of it
 --     by_seen          the same of strands as far as they are looked at
@@ -10,15 +10,18 @@ use mathlib.Core.List.{List, [], ◌∷◌}
 use Prim.Native.Nat.{ℕ, ◌/◌, ◌≤◌, min}
 use native.Mathlib.Omega.{arith}
 use borrow.Author.Tests.{ltb-false}
+use lib.Dec.{eqb}
 use lib.ListN.{length, take, replicate}
 use Rattle.std.proofs.Common.{Option, Some, None, Result, Ok, Err}
 use Rattle.lists.specs.Output.{put}
 use Rattle.lists.specs.Part.{only_if}
 use Rattle.refusals.specs.declared.Refusal.{Refusal}
 use Rattle.refusals.specs.declared.Refusal.TheVariants.{Broken}
-use Rattle.refusals.specs.Refusal.{refused, too_many}
+use Rattle.refusals.specs.Refusal.{code, refused, too_many}
 use Rattle.refusals.specs.Outcome.{answer}
 use Rattle.refusals.proofs.Claims.{none_lost}
+use Rattle.settings.specs.Settings.{settings_faults}
+use Rattle.settings.specs.declared.GivenSettings.{GivenSettings}
 use Rattle.methylation.specs.declared.ConversionPattern.{ConversionPattern}
 use Rattle.byte_numbers.specs.Bytes.{bytes16, all_bytes, words16}
 use Rattle.byte_numbers.specs.Groups.{joined}
@@ -46,12 +49,12 @@ use Rattle.source_reads.specs.Reads.{counted_errors}
 use Rattle.c_record.specs.Outputs.{RecordBytes, written, written_of, outputs_refused}
 use Rattle.c_record.proofs.Outputs.{Room}
 use Rattle.c_consensus.specs.Consensus.{ConsensusBytesAs}
-use Rattle.c_consensus.specs.Parts.{zero_numbers, strand_read, StrandIs, unless_many, with_list, list_errors, errors_left, KeptAs, FitsIn}
-use Rattle.c_consensus.proofs.Rows.{seen_same, kind, inputs, listed_is, given_pass}
+use Rattle.c_consensus.specs.Parts.{zero_numbers, strand_read, StrandIs, Settled, both_of, settled, unless_many, with_list, list_errors, errors_left, KeptAs, FitsIn}
+use Rattle.c_consensus.proofs.Rows.{seen_same, kind, of_inputs, listed_is, given_pass}
 use Rattle.c_consensus.proofs.Read.{Lengths, as_long, marks_size, depths_read, whole, strand_whole}
 use Rattle.c_consensus.proofs.Written.{kept_written}
 use Rattle.c_consensus.proofs.Both.{no_longer, positions_written, errors_written}
-use Rattle.c_consensus.proofs.Consensus.{Puts, of_kind, told, room_is, made_is}
+use Rattle.c_consensus.proofs.Consensus.{Puts, of_kind, none_met, told, same_settings, room_is, made_is}
 use Rattle.c_consensus.proofs.Single.{Copied, single_written}
 
 -- Of a strand as the code has it all evidence is looked at.
@@ -60,20 +63,35 @@ unfolding only_if
 seen_evidence None = refl
 seen_evidence (Some s) = held_seen s.methylation
 
-pub by_seen : (a b : Option EncodedStrand) {listed : Bool} {run : List ℕ} {before now : RecordBytes} {r : Result (Option DuplexConsensus) Refusal} → ConsensusBytesAs (encoded_in a) (encoded_in b) listed run before now r → ConsensusBytesAs (seen (encoded_in a)) (seen (encoded_in b)) listed run before now r
-by_seen a b {listed} {run} {before} {now} {r} x =
-    subst (λ (s : StrandBytes). ConsensusBytesAs s (seen (encoded_in b)) listed run before now r) (sym (seen_same a))
-    (subst (λ (s : StrandBytes). ConsensusBytesAs (encoded_in a) s listed run before now r) (sym (seen_same b)) x)
+pub by_seen : (a b : Option EncodedStrand) {lab : GivenSettings} {listed : Bool} {run : List ℕ} {before now : RecordBytes} {r : Result (Option DuplexConsensus) Refusal} → ConsensusBytesAs lab (encoded_in a) (encoded_in b) listed run before now r → ConsensusBytesAs lab (seen (encoded_in a)) (seen (encoded_in b)) listed run before now r
+by_seen a b {lab} {listed} {run} {before} {now} {r} x =
+    subst (λ (s : StrandBytes). ConsensusBytesAs lab s (seen (encoded_in b)) listed run before now r) (sym (seen_same a))
+    (subst (λ (s : StrandBytes). ConsensusBytesAs lab (encoded_in a) s listed run before now r) (sym (seen_same b)) x)
 
 misfit_is : (s : Option EncodedStrand) → misfit_in (encoded_in s) ≡ misfit (encoded_in s)
 misfit_is s = same_misfit s ∙ ap misfit (seen_same s)
 
--- A list changes no kind.
-kind_kept : (listed : Bool) (run : List ℕ) (k : Result (Option DuplexConsensus) Refusal) {x : Option DuplexConsensus} → with_list listed run k ≡ Ok x → k ≡ Ok x
-kind_kept false run k e = e
-kind_kept true run k e = by_run (is_run run) (too_many (length (reads_of run) ∷ [])) k e
+abbrev kind_alone : Settled → Result (Option DuplexConsensus) Refusal
+kind_alone (Ok s) = Ok s.0
+kind_alone (Err row) = Err row
+
+-- Where neither is refused, the kind is the strands'.
+kind_settled : (tested : Result GivenSettings Refusal) (k : Result (Option DuplexConsensus) Refusal) {x : Option DuplexConsensus} {lab : GivenSettings} → settled tested k ≡ Ok (x, lab) → k ≡ Ok x
+kind_settled (Ok own) (Ok y) e = ap kind_alone e
+kind_settled (Err row) (Ok y) e = absurd cc
+kind_settled tested (Err row) e = by_row (eqb (code row) (code Broken)) tested e
   where
-    by_run : (w t : Bool) (k : Result (Option DuplexConsensus) Refusal) {x : Option DuplexConsensus} → cond w (unless_many t k) (Err Broken) ≡ Ok x → k ≡ Ok x
+    by_row : (broken : Bool) (tested : Result GivenSettings Refusal) {x : Option DuplexConsensus} {lab : GivenSettings} → cond broken (Err Broken) (both_of tested (Err row)) ≡ Ok (x, lab) → Err row ≡ Ok x
+    by_row true tested e = absurd cc
+    by_row false (Ok own) e = absurd cc
+    by_row false (Err other) e = absurd cc
+
+-- A list changes nothing of either.
+settled_kept : (listed : Bool) (run : List ℕ) (k : Settled) {x : Option DuplexConsensus} {lab : GivenSettings} → with_list listed run k ≡ Ok (x, lab) → k ≡ Ok (x, lab)
+settled_kept false run k e = e
+settled_kept true run k e = by_run (is_run run) (too_many (length (reads_of run) ∷ [])) k e
+  where
+    by_run : (w t : Bool) (k : Settled) {x : Option DuplexConsensus} {lab : GivenSettings} → cond w (unless_many t k) (Err Broken) ≡ Ok (x, lab) → k ≡ Ok (x, lab)
     by_run false t k e = absurd cc
     by_run true t (Err row) e = absurd cc
     by_run true true (Ok y) e = absurd cc
@@ -97,12 +115,12 @@ none_puts before = record { bases = refl; quals = refl; errors = refl; evidence_
 
 -- The same of equal strands.
 same_positions :
-    {n : ℕ} {ct ct' : CtInput} {x x' y y' : Arrays} {bases quals bases_now quals_now : List ℕ}
+    {ceiling n : ℕ} {ct ct' : CtInput} {x x' y y' : Arrays} {bases quals bases_now quals_now : List ℕ}
     → ct ≡ ct'
     → x ≡ x'
     → y ≡ y'
-    → PositionsAs n ct x y bases quals bases_now quals_now
-    → PositionsAs n ct' x' y' bases quals bases_now quals_now
+    → PositionsAs ceiling n ct x y bases quals bases_now quals_now
+    → PositionsAs ceiling n ct' x' y' bases quals bases_now quals_now
 same_positions e f g p = rw (e, f, g) at p
 
 same_errors : (listed : Bool) (n : ℕ) {ct ct' : CtInput} {x x' y y' : Arrays} (errors : List ℕ) → ct ≡ ct' → x ≡ x' → y ≡ y' → errors_left ct listed n x y errors ≡ errors_left ct' listed n x' y' errors
@@ -127,10 +145,12 @@ same_combined {p} {p'} {q} {q'} {x} {x'} {y} {y'} {m} {m'} e f g h i =
     ∙ ap (λ z. combined_of (strand true p' x') (strand true q' y') z) i
 
 module _
-    (places : ℕ) (a b : Option EncodedStrand) (listed : Bool) (run : List ℕ)
+    (lab : GivenSettings) (places : ℕ) (a b : Option EncodedStrand) (listed : Bool) (run : List ℕ)
     (few_a : FitsIn places (encoded_in a)) (few_b : FitsIn places (encoded_in b))
     {xa xb : Numbers} (read_a : StrandRead (encoded_in a) (zero_numbers places) xa) (read_b : StrandRead (encoded_in b) (zero_numbers places) xb)
-    {ks r : Result (Option DuplexConsensus) Refusal} (by_depths : ks ≡ kind_read (encoded_in a) (encoded_in b) xa.depths xb.depths) (by_list : r ≡ with_list listed run ks)
+    {ks : Result (Option DuplexConsensus) Refusal} (by_depths : ks ≡ kind_read (encoded_in a) (encoded_in b) xa.depths xb.depths)
+    {tested : Result GivenSettings Refusal} (by_test : tested ≡ answer (refused (settings_faults lab)) lab)
+    {r : Settled} (by_list : r ≡ with_list listed run (settled tested ks))
     (before : RecordBytes)
   where
     abbrev A : StrandBytes
@@ -151,20 +171,23 @@ module _
     of_strands : ks ≡ kind_by A B
     of_strands = by_depths ∙ kind_whole A B xa.depths xb.depths (λ short. depths_read places A read_a (few_a short)) (λ short. depths_read places B read_b (few_b short))
 
-    pub kind_is : r ≡ answer (inputs A B listed run) (kind A B listed run)
-    kind_is = by_list ∙ ap (with_list listed run) of_strands ∙ listed_is A B listed run (misfit_is a) (misfit_is b)
+    pub kind_is : r ≡ of_inputs lab A B listed run
+    kind_is =
+        by_list
+        ∙ ap₂ (λ (t : Result GivenSettings Refusal) (k : Result (Option DuplexConsensus) Refusal). with_list listed run (settled t k)) by_test of_strands
+        ∙ listed_is lab A B listed run (misfit_is a) (misfit_is b)
 
-    module _ {k : Option DuplexConsensus} (was : r ≡ Ok k) where
-      is : (inputs A B listed run ≡ None) × (kind A B listed run ≡ k)
-      is = told A B listed run before (sym kind_is ∙ was)
+    module _ {k : Option DuplexConsensus} (was : r ≡ Ok (k, lab)) where
+      is : kind lab A B listed run ≡ k
+      is = told lab A B listed run before (sym kind_is ∙ was)
 
       pass : refused (strand_faults first second listed count false) ≡ None
-      pass = given_pass A B listed run is.0
+      pass = given_pass lab A B listed run (none_met lab A B listed run before (sym kind_is ∙ was))
 
-    pub ab_puts : {n : ℕ} {now : RecordBytes} → r ≡ Ok (Some (Ab n)) → Room (written n A.annotation None) before → Copied A n xa.errors xa.marks before now → Puts (of_kind A B listed run before (Some (Ab n))) before now
+    pub ab_puts : {n : ℕ} {now : RecordBytes} → r ≡ Ok (Some (Ab n), lab) → Room (written n A.annotation None) before → Copied A n xa.errors xa.marks before now → Puts (of_kind lab A B listed run before (Some (Ab n))) before now
     unfolding strand_of
     ab_puts {n} {now} was room c =
-        let e : kind A B listed run ≡ Some (Ab n) = (is was).1 in
+        let e : kind lab A B listed run ≡ Some (Ab n) = is was in
         let (_, k, p) = is_ab first second listed count false (sym (taken first second listed count false (pass was)) ∙ ap Ok e) in
         let size : positions first ≡ n = cc in
         let same : length A.bases ≡ n = at size in
@@ -176,10 +199,10 @@ module _
         at : {m : ℕ} → positions first ≡ m → length A.bases ≡ m
         at e = e
 
-    pub ba_puts : {n : ℕ} {now : RecordBytes} → r ≡ Ok (Some (Ba n)) → Room (written n B.annotation None) before → Copied B n xb.errors xb.marks before now → Puts (of_kind A B listed run before (Some (Ba n))) before now
+    pub ba_puts : {n : ℕ} {now : RecordBytes} → r ≡ Ok (Some (Ba n), lab) → Room (written n B.annotation None) before → Copied B n xb.errors xb.marks before now → Puts (of_kind lab A B listed run before (Some (Ba n))) before now
     unfolding strand_of
     ba_puts {n} {now} was room c =
-        let e : kind A B listed run ≡ Some (Ba n) = (is was).1 in
+        let e : kind lab A B listed run ≡ Some (Ba n) = is was in
         let (_, k, p) = is_ba first second listed count false (sym (taken first second listed count false (pass was)) ∙ ap Ok e) in
         let size : positions second ≡ n = cc in
         let same : length B.bases ≡ n = at size in
@@ -193,19 +216,19 @@ module _
 
     pub both_puts :
         {n : ℕ} {now : RecordBytes} {va vb : VanillaConsensusRead} {errors : List ℕ}
-        → r ≡ Ok (Some (Both n))
+        → r ≡ Ok (Some (Both n), lab)
         → Room (written n A.annotation B.annotation) before
         → StrandIs (strand_read A xa) va
         → StrandIs (strand_read B xb) vb
         → errors ≡ list_errors listed run ks va vb (replicate places 0)
-        → PositionsAs n (ct_input (annotation_in va) (annotation_in vb)) (arrays_in va) (arrays_in vb) before.bases before.quals now.bases now.quals
+        → PositionsAs lab.ceiling n (ct_input (annotation_in va) (annotation_in vb)) (arrays_in va) (arrays_in vb) before.bases before.quals now.bases now.quals
         → now.errors ≡ put (bytes16 (take (length before.errors / 2) (take n (errors_left (ct_input (annotation_in va) (annotation_in vb)) listed n (arrays_in va) (arrays_in vb) errors)))) before.errors
         → KeptAs n (ct_input A.annotation B.annotation) A A.bases B.bases xa.marks before.evidence_a now.evidence_a
         → KeptAs n (ct_input A.annotation B.annotation) B A.bases B.bases xb.marks before.evidence_b now.evidence_b
-        → Puts (of_kind A B listed run before (Some (Both n))) before now
+        → Puts (of_kind lab A B listed run before (Some (Both n))) before now
     unfolding strand_of
     both_puts {n} {now} {va} {vb} {errors} was room sva svb listing pos errs ka kb =
-        let e : kind A B listed run ≡ Some (Both n) = (is was).1 in
+        let e : kind lab A B listed run ≡ Some (Both n) = is was in
         let (_, k, pa, pb) = is_both first second listed count false (sym (taken first second listed count false (pass was)) ∙ ap Ok e) in
         let shorter : n ≡ min (positions first) (positions second) = cc in
         let la = as_long A pa in
@@ -220,11 +243,11 @@ module _
         let arrays_b = ap (λ (s : Strand). s.arrays) sb in
         let ct_is = ap₂ ct_input sva.annotation svb.annotation in
         let clear = none_lost (strand_faults first second listed count false) (pass was) in
-        let whole_kind : ks ≡ Ok (Some (Both n)) = kind_kept listed run ks (sym by_list ∙ was) in
+        let whole_kind : ks ≡ Ok (Some (Both n)) = kind_settled tested ks (settled_kept listed run (settled tested ks) (sym by_list ∙ was)) in
         let counted : counted_errors (reads_of run) run _ (replicate places 0) ≡ counted_errors (reads_of run) run (combined_of first second n) (replicate places 0) =
         ap (λ s. counted_errors (reads_of run) run s (replicate places 0)) (same_combined sva.annotation svb.annotation (sva.arrays ∙ arrays_a) (svb.arrays ∙ arrays_b) (ap (counted_positions true) whole_kind))
         in
-        let written_own = positions_written A B n la lb in_a in_b room.bases room.quals (same_positions ct_is (sva.arrays ∙ arrays_a) (svb.arrays ∙ arrays_b) pos) in
+        let written_own = positions_written A B n la lb in_a in_b lab.ceiling room.bases room.quals (same_positions ct_is (sva.arrays ∙ arrays_a) (svb.arrays ∙ arrays_b) pos) in
         record {
           bases = written_own.0;
           quals = written_own.1;
@@ -247,21 +270,28 @@ module _
         }
 
     -- The same of a call that was not refused by row 12 either.
-    module _ {k : Option DuplexConsensus} (was : r ≡ Ok k) {x : Unit {0}} (not_short : answer (outputs_refused (written_of A.annotation B.annotation k) before) tt ≡ Ok x) where
-      made : {now : RecordBytes} {y : Option DuplexConsensus} → k ≡ y → Puts (of_kind A B listed run before y) before now → ConsensusBytesAs (seen A) (seen B) listed run before now (Ok k)
-      made {now} e p = by_seen a b (made_is A B listed run before (sym kind_is ∙ was) not_short (subst (λ (z : Option DuplexConsensus). Puts (of_kind A B listed run before z) before now) (sym e) p))
+    module _ {k : Option DuplexConsensus} {used : GivenSettings} (was : r ≡ Ok (k, used)) {x : Unit {0}} (not_short : answer (outputs_refused (written_of A.annotation B.annotation k) before) tt ≡ Ok x) where
+      -- The settings that the record was made by are those of the call.
+      settings_are : lab ≡ used
+      settings_are = same_settings lab A B listed run before (sym kind_is ∙ was)
+
+      made_of : {y : Option DuplexConsensus} → k ≡ y → r ≡ Ok (y, lab)
+      made_of e = was ∙ ap₂ (λ (z : Option DuplexConsensus) (l : GivenSettings). Ok (z, l)) e (sym settings_are)
+
+      made : {now : RecordBytes} {y : Option DuplexConsensus} → k ≡ y → Puts (of_kind lab A B listed run before y) before now → ConsensusBytesAs lab (seen A) (seen B) listed run before now (Ok k)
+      made {now} e p = by_seen a b (made_is lab A B listed run before (sym kind_is ∙ was) not_short (subst (λ (z : Option DuplexConsensus). Puts (of_kind lab A B listed run before z) before now) (sym e) p))
 
       room_of : {y : Option DuplexConsensus} → k ≡ y → Room (written_of A.annotation B.annotation y) before
       room_of {y} e = room_is (written_of A.annotation B.annotation y) before (subst (λ (z : Option DuplexConsensus). answer (outputs_refused (written_of A.annotation B.annotation z) before) tt ≡ Ok x) e not_short)
 
-      pub made_none : k ≡ None → ConsensusBytesAs (seen A) (seen B) listed run before before (Ok k)
+      pub made_none : k ≡ None → ConsensusBytesAs lab (seen A) (seen B) listed run before before (Ok k)
       made_none e = made e (none_puts before)
 
-      pub made_ab : {n : ℕ} {now : RecordBytes} → k ≡ Some (Ab n) → Copied A n xa.errors xa.marks before now → ConsensusBytesAs (seen A) (seen B) listed run before now (Ok k)
-      made_ab e c = made e (ab_puts (was ∙ ap Ok e) (room_of e) c)
+      pub made_ab : {n : ℕ} {now : RecordBytes} → k ≡ Some (Ab n) → Copied A n xa.errors xa.marks before now → ConsensusBytesAs lab (seen A) (seen B) listed run before now (Ok k)
+      made_ab e c = made e (ab_puts (made_of e) (room_of e) c)
 
-      pub made_ba : {n : ℕ} {now : RecordBytes} → k ≡ Some (Ba n) → Copied B n xb.errors xb.marks before now → ConsensusBytesAs (seen A) (seen B) listed run before now (Ok k)
-      made_ba e c = made e (ba_puts (was ∙ ap Ok e) (room_of e) c)
+      pub made_ba : {n : ℕ} {now : RecordBytes} → k ≡ Some (Ba n) → Copied B n xb.errors xb.marks before now → ConsensusBytesAs lab (seen A) (seen B) listed run before now (Ok k)
+      made_ba e c = made e (ba_puts (made_of e) (room_of e) c)
 
       pub made_both :
           {n : ℕ} {now : RecordBytes} {va vb : VanillaConsensusRead} {errors : List ℕ}
@@ -269,9 +299,11 @@ module _
           → StrandIs (strand_read A xa) va
           → StrandIs (strand_read B xb) vb
           → errors ≡ list_errors listed run ks va vb (replicate places 0)
-          → PositionsAs n (ct_input (annotation_in va) (annotation_in vb)) (arrays_in va) (arrays_in vb) before.bases before.quals now.bases now.quals
+          → PositionsAs used.ceiling n (ct_input (annotation_in va) (annotation_in vb)) (arrays_in va) (arrays_in vb) before.bases before.quals now.bases now.quals
           → now.errors ≡ put (bytes16 (take (length before.errors / 2) (take n (errors_left (ct_input (annotation_in va) (annotation_in vb)) listed n (arrays_in va) (arrays_in vb) errors)))) before.errors
           → KeptAs n (ct_input A.annotation B.annotation) A A.bases B.bases xa.marks before.evidence_a now.evidence_a
           → KeptAs n (ct_input A.annotation B.annotation) B A.bases B.bases xb.marks before.evidence_b now.evidence_b
-          → ConsensusBytesAs (seen A) (seen B) listed run before now (Ok k)
-      made_both e sva svb listing pos errs ka kb = made e (both_puts (was ∙ ap Ok e) (room_of e) sva svb listing pos errs ka kb)
+          → ConsensusBytesAs lab (seen A) (seen B) listed run before now (Ok k)
+      made_both {n} {now} {va} {vb} e sva svb listing pos errs ka kb =
+          let under : PositionsAs lab.ceiling n (ct_input (annotation_in va) (annotation_in vb)) (arrays_in va) (arrays_in vb) before.bases before.quals now.bases now.quals = rw (← settings_are) at pos in
+          made e (both_puts (made_of e) (room_of e) sva svb listing under errs ka kb)

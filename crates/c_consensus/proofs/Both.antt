@@ -70,20 +70,20 @@ module _ (a b : StrandBytes) (n : ℕ) (of_a : Lengths a) (of_b : Lengths b) (in
   second = (strand_of b).arrays
 
   pub positions_written :
-      {bases quals bases_now quals_now : List ℕ}
+      (ceiling : ℕ) {bases quals bases_now quals_now : List ℕ}
       → n ≤ length bases
       → n ≤ length quals
-      → PositionsAs n ct A B bases quals bases_now quals_now
-      → (bases_now ≡ put (combined_bases n ct first second) bases) × (quals_now ≡ put (combined_quals n ct first second) quals)
+      → PositionsAs ceiling n ct A B bases quals bases_now quals_now
+      → (bases_now ≡ put (combined_bases ceiling n ct first second) bases) × (quals_now ≡ put (combined_quals ceiling n ct first second) quals)
   unfolding strand_of combined_bases combined_quals
-  positions_written {bases} {quals} f g p =
+  positions_written ceiling {bases} {quals} f g p =
       let marked : can_call ct ≡ true → Every (λ x. n ≤ x) (length A.evidence.marks ∷ length B.evidence.marks ∷ []) =
       λ e.
       (let (p, q) = both_annotated a.annotation b.annotation e in
       (omega (arith, length_by_group 9 mark_in a.evidence, of_a.evidence p), (omega (arith, length_by_group 9 mark_in b.evidence, of_b.evidence q), tt)))
       in
       let enough : positions_short n ct A B bases quals ≡ false = long_enough n (can_call ct) (length A.evidence.marks ∷ length B.evidence.marks ∷ []) (length A.bases ∷ length A.quals ∷ length B.bases ∷ length B.quals ∷ length bases ∷ length quals ∷ []) marked (in_a, (omega (arith, of_a.quals), (in_b, (omega (arith, of_b.quals), (f, (g, tt)))))) in
-      (put_all (combined_bases n ct A B) bases enough p.bases_now, put_all (combined_quals n ct A B) quals enough p.quals_now)
+      (put_all (combined_bases ceiling n ct A B) bases enough p.bases_now, put_all (combined_quals ceiling n ct A B) quals enough p.quals_now)
 
   -- The estimate, written to the front of an array.
   estimated : (errors : List ℕ) → n ≤ length errors → take n (errors_left ct false n A B errors) ≡ estimates n ct first second

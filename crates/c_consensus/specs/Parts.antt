@@ -1,11 +1,14 @@
 -- What the parts of the call from bytes to bytes promise each other.
-use Rattle.std.specs.Prelude.{ℕ, ◌/◌, ◌≡◌, ◌≤◌, Bool, true, false, cond, not, Option, Some, None, Result, Ok, Err, List, [], ◌∷◌, ltb, length, take, replicate}
+use Rattle.std.specs.Prelude.{ℕ, ◌/◌, ◌≡◌, ◌≤◌, Bool, true, false, cond, not, Option, Some, None, Result, Ok, Err, List, [], ◌∷◌, eqb, ltb, length, take, replicate}
 use Rattle.lists.specs.Output.{put}
 use Rattle.lists.specs.Table.{tabulate}
 use Rattle.refusals.specs.declared.Refusal.{Refusal}
 use Rattle.refusals.specs.declared.Refusal.TheVariants.{Broken, TooManyReads}
-use Rattle.refusals.specs.Refusal.{◌if◌, refused, too_many}
+use Rattle.refusals.specs.Refusal.{◌if◌, code, refused, too_many}
 use Rattle.refusals.specs.Outcome.{answer}
+use Rattle.settings.specs.Settings.{given_of}
+use Rattle.settings.specs.declared.GivenSettings.{GivenSettings}
+use Rattle.settings.specs.declared.Settings.{Settings}
 use Rattle.methylation.specs.Arrays.{evidence_arrays}
 use Rattle.methylation.specs.declared.ConversionPattern.{ConversionPattern}
 use Rattle.vanilla_caller.specs.Strand.{Arrays, arrays, annotation_in, arrays_in}
@@ -37,14 +40,37 @@ pub record StrandIs (s : Strand) (read : VanillaConsensusRead) : Type 0 where
   pub annotation : annotation_in read ≡ s.annotation
   pub arrays : arrays_in read ≡ s.arrays
 
--- The kind, or row 9 behind its rows.
-abbrev pub unless_many : Bool → Result (Option DuplexConsensus) Refusal → Result (Option DuplexConsensus) Refusal
-unless_many many (Ok kind) = answer (refused ((TooManyReads if many) ∷ [])) kind
+-- The kind of a record and the settings that it is made by, or what refuses either.
+abbrev pub Settled : Type 0
+Settled = Result (Option DuplexConsensus × GivenSettings) Refusal
+
+-- As the code has it.
+abbrev pub settled_by : Result (Option DuplexConsensus × Settings) Refusal → Settled
+settled_by (Ok s) = Ok (s.0, given_of s.1)
+settled_by (Err row) = Err row
+
+-- The settings are refused before the kind.
+abbrev pub both_of : Result GivenSettings Refusal → Result (Option DuplexConsensus) Refusal → Settled
+both_of (Err row) kind = Err row
+both_of (Ok lab) (Err row) = Err row
+both_of (Ok lab) (Ok kind) = Ok (kind, lab)
+
+-- The kind's own 13 comes before the settings' rows.
+abbrev pub is_broken : Result (Option DuplexConsensus) Refusal → Bool
+is_broken (Ok kind) = false
+is_broken (Err row) = eqb (code row) (code Broken)
+
+abbrev pub settled : Result GivenSettings Refusal → Result (Option DuplexConsensus) Refusal → Settled
+settled tested kind = cond (is_broken kind) (Err Broken) (both_of tested kind)
+
+-- The same, or row 9 behind its rows.
+abbrev pub unless_many : Bool → Settled → Settled
+unless_many many (Ok s) = answer (refused ((TooManyReads if many) ∷ [])) s
 unless_many many (Err row) = Err row
 
--- The kind of a record by that of its strands and by a run of reads, where there is a list.
-abbrev pub with_list : Bool → List ℕ → Result (Option DuplexConsensus) Refusal → Result (Option DuplexConsensus) Refusal
-with_list listed run kind = cond listed (cond (is_run run) (unless_many (too_many (length (reads_of run) ∷ [])) kind) (Err Broken)) kind
+-- By a run of reads too, where there is a list.
+abbrev pub with_list : Bool → List ℕ → Settled → Settled
+with_list listed run s = cond listed (cond (is_run run) (unless_many (too_many (length (reads_of run) ∷ [])) s) (Err Broken)) s
 
 -- A strand of the code that is there.
 abbrev pub given : VanillaConsensusRead → Strand

@@ -1,12 +1,13 @@
 // The duplex record of strands given as bytes, written as bytes: what the entry point for C does. There is one way for strands with an
 // annotation and without: bases and qualities are written where they go, evidence goes from bytes to bytes, and of a strand's numbers
-// depths, errors and marks alone stand in arrays. Uses lists, refusals, methylation, vanilla_caller, byte_numbers, molecule_evidence,
-// molecule_strand, molecule_reads, duplex_molecule, duplex_arrays, duplex_evidence, duplex_kind, duplex_consensus, molecule_errors,
-// molecule_consensus and c_record.
+// depths, errors and marks alone stand in arrays. Uses lists, refusals, settings, methylation, vanilla_caller, byte_numbers,
+// molecule_evidence, molecule_strand, molecule_reads, duplex_molecule, duplex_arrays, duplex_evidence, duplex_kind, duplex_consensus,
+// molecule_errors, molecule_consensus and c_record.
 #![tactic(auto)]
 
 ghost use Rattle.std.specs.Prelude.{◌≡◌, ◌/◌, ◌≤◌, [], is_some, length, take};
 ghost use Rattle.lists.specs.Output.{put};
+ghost use Rattle.settings.specs.Settings.{told_by};
 ghost use Rattle.vanilla_caller.specs.Strand.{annotation_in, arrays_in};
 ghost use Rattle.byte_numbers.specs.Bytes.{bytes16};
 ghost use Rattle.molecule_evidence.specs.Evidence.{marked_bytes, positions_marked};
@@ -17,7 +18,7 @@ ghost use Rattle.duplex_molecule.specs.Molecule.{ct_input};
 ghost use Rattle.duplex_arrays.specs.Positions.{PositionsAs};
 ghost use Rattle.c_record.specs.Lent.{bytes_out, SameBytes};
 ghost use Rattle.c_consensus.specs.Consensus.{MoleculeBytesAs};
-ghost use Rattle.c_consensus.specs.Parts.{strand_read, StrandIs, with_list, list_errors, errors_left, KeptAs, FitsIn, is_short};
+ghost use Rattle.c_consensus.specs.Parts.{strand_read, StrandIs, settled_by, settled, with_list, list_errors, errors_left, KeptAs, FitsIn, is_short};
 
 use c_record::{ByteOutputs, written_of};
 use duplex_arrays::{PositionOutputs, write_errors, write_positions};
@@ -32,6 +33,7 @@ use molecule_evidence::write_marked;
 use molecule_reads::count_run;
 use molecule_strand::{EncodedStrand, kind_of_depths, read_strand, strand_of_numbers};
 use refusals::{MAX_READS, Refusal, refuse};
+use settings::{GivenSettings, Settings};
 use vanilla_caller::VanillaConsensusRead;
 
 fn annotation_of(s: Option<EncodedStrand>) -> Option<ConversionPattern>
@@ -89,27 +91,43 @@ fn strand_in<'a>(
     ))
 }
 
-// The kind of a record, by that of its strands and by the list of reads, whose errors are counted where both strands make one record. The
-// run is walked before the strands refuse anything: it is refused by 13, and a walk takes long. Refuses by 13, then as the kind, then by 9.
+// The kind of a record and the settings that it is made by. Refuses by the kind's 13, then as the settings, then by the kind's other rows.
+fn settled(
+    kind: Result<Option<DuplexConsensus>, Refusal>,
+    settings: Result<Settings, Refusal>,
+) -> Result<(Option<DuplexConsensus>, Settings), Refusal>
+    ensures { settled_by result ≡ settled (told_by settings) kind }
+{
+    if let Err(Refusal::Broken) = kind {
+        return Err(Refusal::Broken);
+    }
+    let settings = settings?;
+    Ok((kind?, settings))
+}
+
+// The same with the list of reads, whose errors are counted where both strands make one record. The run is walked before these refuse
+// anything: it is refused by 13, and a walk takes long. Refuses by 13, then as these, then by 9.
 fn listed_kind(
     kind: Result<Option<DuplexConsensus>, Refusal>,
+    settings: Result<Settings, Refusal>,
     reads: Option<&[u8]>,
     a: VanillaConsensusRead,
     b: VanillaConsensusRead,
     errors: &mut [u16],
-) -> Result<Option<DuplexConsensus>, Refusal>
-    ensures kind { result ≡ with_list (is_some reads.entry) (run_in reads.entry) kind }
+) -> Result<(Option<DuplexConsensus>, Settings), Refusal>
+    ensures kind { settled_by result ≡ with_list (is_some reads.entry) (run_in reads.entry) (settled (told_by settings) kind) }
     ensures errors { errors.new ≡ list_errors (is_some reads.entry) (run_in reads.entry) kind a.entry b.entry errors.old }
 {
+    let settled = settled(kind, settings);
     let Some(run) = reads else {
-        return kind;
+        return settled;
     };
     let s = combined_bases(Some(a), Some(b), counted_positions(kind, true));
     let list = count_run(run, s, errors);
     list.whole?;
-    let kind = kind?;
+    let settled = settled?;
     refuse(MAX_READS < list.count, Refusal::TooManyReads)?;
-    Ok(kind)
+    Ok(settled)
 }
 
 // The errors of a record of two strands: those that were counted of a list, without one the estimate.
@@ -130,6 +148,7 @@ fn write_estimates(
 
 // Bases, qualities and errors of the first n positions of two strands.
 fn write_both(
+    settings: Settings,
     a: VanillaConsensusRead,
     b: VanillaConsensusRead,
     listed: bool,
@@ -138,7 +157,7 @@ fn write_both(
     out: &mut ByteOutputs<'_>,
 )
     ensures same_references { SameBytes out.old out.new }
-    ensures positions { PositionsAs n (ct_input (annotation_in a.entry) (annotation_in b.entry)) (arrays_in a.entry) (arrays_in b.entry)
+    ensures positions { PositionsAs settings.ceiling.value n (ct_input (annotation_in a.entry) (annotation_in b.entry)) (arrays_in a.entry) (arrays_in b.entry)
         out.old.bases.now out.old.quals.now
         out.new.bases.now out.new.quals.now }
     ensures errors { out.new.errors.now ≡ put (bytes16 (take (length out.old.errors.now / 2) (take n (errors_left (ct_input (annotation_in a.entry) (annotation_in b.entry)) listed n (arrays_in a.entry) (arrays_in b.entry) errors.old)))) out.old.errors.now }
@@ -150,7 +169,7 @@ fn write_both(
         bases: &mut *out.bases,
         quals: &mut *out.quals,
     };
-    write_positions(ct, a, b, n, &mut positions);
+    write_positions(settings.ceiling, ct, a, b, n, &mut positions);
     write_estimates(ct, listed, a, b, n, errors);
     byte_numbers::write(front(errors, n), out.errors);
 }
@@ -199,13 +218,14 @@ fn write_single(
 // The record, by arrays of N places, which no strand has more positions than that row 7 lets pass. A call clears them, which is most of
 // what it takes longer than the call on numbers: hence as few places as will do, and no arrays for counts of evidence.
 fn consensus_within<const N: usize>(
+    given: GivenSettings,
     m: EncodedMolecule,
     out: &mut ByteOutputs<'_>,
 ) -> Result<Option<DuplexConsensus>, Refusal>
     requires places { N ≤ 1024 }
     requires fits { FitsIn N (encoded_in m.a) × FitsIn N (encoded_in m.b) }
     ensures same_references { SameBytes out.old out.new }
-    ensures made { MoleculeBytesAs (seen_of (molecule_in m.entry))
+    ensures made { MoleculeBytesAs given (seen_of (molecule_in m.entry))
         (bytes_out out.old)
         (bytes_out out.new)
         result }
@@ -223,7 +243,7 @@ fn consensus_within<const N: usize>(
     let of_strands = kind_of_depths(m.a, m.b, &a_depths, &b_depths);
     let a = strand_in(m.a, &a_depths, &a_errors, &a_marks);
     let b = strand_in(m.b, &b_depths, &b_errors, &b_marks);
-    let kind = listed_kind(of_strands, m.reads, a, b, &mut errors)?;
+    let (kind, settings) = listed_kind(of_strands, given.tested(), m.reads, a, b, &mut errors)?;
     let first = annotation_of(m.a);
     let second = annotation_of(m.b);
     out.refusal(written_of(first, second, kind))?;
@@ -239,7 +259,7 @@ fn consensus_within<const N: usize>(
         }
         Some(DuplexConsensus::Both(n)) => {
             let listed = m.reads.is_some();
-            write_both(a, b, listed, n, &mut errors, out);
+            write_both(settings, a, b, listed, n, &mut errors, out);
             let ct = ct_input(first, second);
             let a_bases = bases_of(m.a);
             let b_bases = bases_of(m.b);
@@ -257,24 +277,25 @@ fn is_short(s: Option<EncodedStrand>, places: usize) -> bool
     s.is_none_or(|s| s.depths.len() / 2 <= places)
 }
 
-// The record of two strands, of one or of none. Evidence is not looked at without an annotation. Refuses by 13, 7, 8, 9, then by 12
-// for what is written.
+// The record of two strands, of one or of none, by a lab's settings. Evidence is not looked at without an annotation. Refuses by 13, 14,
+// 7, 8, 9, then by 12 for what is written.
 pub fn duplex_consensus_bytes(
+    given: GivenSettings,
     m: EncodedMolecule,
     out: &mut ByteOutputs<'_>,
 ) -> Result<Option<DuplexConsensus>, Refusal>
     ensures same_references { SameBytes out.old out.new }
-    ensures made { MoleculeBytesAs (seen_of (molecule_in m.entry))
+    ensures made { MoleculeBytesAs given (seen_of (molecule_in m.entry))
         (bytes_out out.old)
         (bytes_out out.new)
         result }
 {
     // Strands of a read's usual length have fewer places.
     if is_short(m.a, 256) & is_short(m.b, 256) {
-        return consensus_within::<256>(m, out);
+        return consensus_within::<256>(given, m, out);
     }
     if is_short(m.a, 512) & is_short(m.b, 512) {
-        return consensus_within::<512>(m, out);
+        return consensus_within::<512>(given, m, out);
     }
-    consensus_within::<1024>(m, out)
+    consensus_within::<1024>(given, m, out)
 }

@@ -14,6 +14,8 @@ use Rattle.lists.specs.Part.{only_if}
 use Rattle.refusals.specs.declared.Refusal.{Refusal}
 use Rattle.refusals.specs.declared.Refusal.TheVariants.{Broken}
 use Rattle.refusals.specs.Outcome.{answer}
+use Rattle.settings.specs.declared.GivenSettings.{GivenSettings}
+use Rattle.replies.specs.Choices.{yes}
 use Rattle.methylation.specs.declared.ConversionPattern.{ConversionPattern}
 use Rattle.duplex_kind.specs.Kind.{Strand, kind_of}
 use Rattle.duplex_kind.specs.declared.DuplexConsensus.{DuplexConsensus}
@@ -27,15 +29,16 @@ use Rattle.molecule_strand.specs.Strand.{StrandBytes, strand_bytes, strand_of}
 use Rattle.molecule_errors.specs.Run.{run_in, run_errors}
 use Rattle.molecule_consensus.specs.Bytes.{seen, bytes_record}
 use Rattle.c_record.specs.Outputs.{RecordBytes, as_bytes, LeavesBytes}
-use Rattle.c_interface.specs.Entry.{entry_refused, Untouched, ConsensusOf, ConsensusEntry}
+use Rattle.c_interface.specs.declared.ToldEncodedMolecule.{ToldEncodedMolecule}
+use Rattle.c_interface.specs.Entry.{wrong_strand, wrong_molecule, entry_refused, Untouched, ConsensusOf, ConsensusEntry}
 
 -- What the combination answers and leaves, where a pattern is wrong or not.
-pub record ConsensusBy (wrong : Bool) (a b : StrandBytes) (listed : Bool) (run : List ℕ) (before now : RecordBytes) (r : Result (Option DuplexConsensus) Refusal) : Type 0 where
-  pub answered : r ≡ answer (entry_refused wrong a b listed run before) (kind_of (strand_of a) (strand_of b))
-  pub outputs : LeavesBytes (entry_refused wrong a b listed run before) (as_bytes (bytes_record a b listed run)) before now
+pub record ConsensusBy (wrong : Bool) (lab : GivenSettings) (a b : StrandBytes) (listed : Bool) (run : List ℕ) (before now : RecordBytes) (r : Result (Option DuplexConsensus) Refusal) : Type 0 where
+  pub answered : r ≡ answer (entry_refused wrong lab a b listed run before) (kind_of (strand_of a) (strand_of b))
+  pub outputs : LeavesBytes (entry_refused wrong lab a b listed run before) (as_bytes (bytes_record lab a b listed run)) before now
 
-module _ (a b : StrandBytes) (listed : Bool) (run : List ℕ) (before now : RecordBytes) (r : Result (Option DuplexConsensus) Refusal) where
-  turned_down : Untouched Broken before now r → ConsensusBy true (seen a) (seen b) listed run before now r
+module _ (lab : GivenSettings) (a b : StrandBytes) (listed : Bool) (run : List ℕ) (before now : RecordBytes) (r : Result (Option DuplexConsensus) Refusal) where
+  turned_down : Untouched Broken before now r → ConsensusBy true lab (seen a) (seen b) listed run before now r
   turned_down x = record {
     answered = x.answered;
     outputs = record {
@@ -50,8 +53,8 @@ module _ (a b : StrandBytes) (listed : Bool) (run : List ℕ) (before now : Reco
   -- By the patterns' tests p and q.
   by_patterns :
       (p q : Bool)
-      → ConsensusOf (cond p (Err Broken) (Ok a)) (cond q (Err Broken) (Ok b)) listed run before now r
-      → ConsensusBy (p || q) (seen a) (seen b) listed run before now r
+      → ConsensusOf lab (cond p (Err Broken) (Ok a)) (cond q (Err Broken) (Ok b)) listed run before now r
+      → ConsensusBy (p || q) lab (seen a) (seen b) listed run before now r
   by_patterns true q x = turned_down x
   by_patterns false true x = turned_down x
   by_patterns false false x = record { answered = x.answered; outputs = x.outputs }
@@ -67,42 +70,43 @@ seen_twice true None bases quals depths errors evidence = refl
 seen_twice true (Some pattern) bases quals depths errors evidence = refl
 
 -- Nothing of a run is looked at where there is no list.
-unlisted_arrays : (a b : Strand) (x y : ℕ → ℕ) (made : Option DuplexConsensus) → record_arrays a b false x made ≡ record_arrays a b false y made
+unlisted_arrays : (lab : GivenSettings) (a b : Strand) (x y : ℕ → ℕ) (made : Option DuplexConsensus) → record_arrays lab a b false x made ≡ record_arrays lab a b false y made
 unfolding combined_errors
-unlisted_arrays a b x y None = refl
-unlisted_arrays a b x y (Some (Ab n)) = refl
-unlisted_arrays a b x y (Some (Ba n)) = refl
-unlisted_arrays a b x y (Some (Both n)) = refl
+unlisted_arrays lab a b x y None = refl
+unlisted_arrays lab a b x y (Some (Ab n)) = refl
+unlisted_arrays lab a b x y (Some (Ba n)) = refl
+unlisted_arrays lab a b x y (Some (Both n)) = refl
 
-unlisted : (a b : StrandBytes) (run : List ℕ) → bytes_record a b false [] ≡ bytes_record a b false run
-unlisted a b run =
+unlisted : (lab : GivenSettings) (a b : StrandBytes) (run : List ℕ) → bytes_record lab a b false [] ≡ bytes_record lab a b false run
+unlisted lab a b run =
     let A = strand_of a in
     let B = strand_of b in
-    unlisted_arrays A B (run_errors A B []) (run_errors A B run) (kind_of A B)
+    unlisted_arrays lab A B (run_errors A B []) (run_errors A B run) (kind_of A B)
 
 by_list :
-    (wrong : Bool) (a b : StrandBytes) (listed : Bool) (run : Bor (List ℕ)) (before now : RecordBytes) (r : Result (Option DuplexConsensus) Refusal)
-    → ConsensusBy wrong a b (is_some (then_some listed run)) (run_in (then_some listed run)) before now r
-    → ConsensusBy wrong a b listed run.now before now r
-by_list wrong a b true run before now r x = record { answered = x.answered; outputs = x.outputs }
-by_list wrong a b false run before now r x = record {
+    (wrong : Bool) (lab : GivenSettings) (a b : StrandBytes) (listed : Bool) (run : Bor (List ℕ)) (before now : RecordBytes) (r : Result (Option DuplexConsensus) Refusal)
+    → ConsensusBy wrong lab a b (is_some (then_some listed run)) (run_in (then_some listed run)) before now r
+    → ConsensusBy wrong lab a b listed run.now before now r
+by_list wrong lab a b true run before now r x = record { answered = x.answered; outputs = x.outputs }
+by_list wrong lab a b false run before now r x = record {
   answered = x.answered;
-  outputs = subst (λ (w : RecordArrays). LeavesBytes (entry_refused wrong a b false run.now before) (as_bytes w) before now) (unlisted a b run.now) x.outputs;
+  outputs = subst (λ (w : RecordArrays). LeavesBytes (entry_refused wrong lab a b false run.now before) (as_bytes w) before now) (unlisted lab a b run.now) x.outputs;
 }
 
--- The patterns' tests p and q; the strands a and b as far as they are looked at, and the list as C gives it.
+-- The strands a and b are as far as they are looked at, and the list is as C gives it.
 pub entry_as :
-    (p q : Bool) (a b : StrandBytes) (listed : Bool) (run : Bor (List ℕ)) {x y : Result StrandBytes Refusal} {list : Option (Bor (List ℕ))} {before now : RecordBytes}
+    (m : ToldEncodedMolecule) (a b : StrandBytes) (run : Bor (List ℕ)) {x y : Result StrandBytes Refusal} {list : Option (Bor (List ℕ))} {before now : RecordBytes}
     (r : Result (Option DuplexConsensus) Refusal) {reply : DuplexRecord}
-    → x ≡ cond p (Err Broken) (Ok (seen a))
-    → y ≡ cond q (Err Broken) (Ok (seen b))
-    → list ≡ then_some listed run
-    → ConsensusOf x y (is_some list) (run_in list) before now r
+    → x ≡ cond (wrong_strand m.a) (Err Broken) (Ok (seen a))
+    → y ≡ cond (wrong_strand m.b) (Err Broken) (Ok (seen b))
+    → list ≡ then_some (yes m.listed) run
+    → ConsensusOf m.settings x y (is_some list) (run_in list) before now r
     → reply ≡ record_for r
-    → ConsensusEntry (p || q) (seen a) (seen b) listed run.now before now reply
-entry_as p q a b listed run {before = before} {now = now} r e f l made told =
+    → ConsensusEntry m (seen a) (seen b) run.now before now reply
+entry_as m a b run {before = before} {now = now} r e f l made told =
     let first = seen_twice a.present a.annotation a.bases a.quals a.depths a.errors a.evidence in
     let second = seen_twice b.present b.annotation b.bases b.quals b.depths b.errors b.evidence in
-    let same = by_patterns (seen a) (seen b) (is_some (then_some listed run)) (run_in (then_some listed run)) before now r p q (rw (e, f, l) at made) in
-    let m = by_list (p || q) (seen a) (seen b) listed run before now r (rw (first, second) at same) in
-    record { answered = told ∙ ap record_for m.answered; outputs = m.outputs }
+    let listed = yes m.listed in
+    let same = by_patterns m.settings (seen a) (seen b) (is_some (then_some listed run)) (run_in (then_some listed run)) before now r (wrong_strand m.a) (wrong_strand m.b) (rw (e, f, l) at made) in
+    let by = by_list (wrong_molecule m) m.settings (seen a) (seen b) listed run before now r (rw (first, second) at same) in
+    record { answered = told ∙ ap record_for by.answered; outputs = by.outputs }

@@ -1,17 +1,17 @@
 // Entry points for C programs: numbers and byte slices, and answers as numbers. An array of wider numbers is passed as its bytes,
-// low byte first. This crate owns the numbers for what is there; the calls are c_metrics's and c_consensus's. Uses lists, refusals, replies,
-// duplex_kind, duplex_metrics, duplex_reply, molecule_strand, molecule_errors, molecule_consensus, c_record, c_metrics and c_consensus.
+// low byte first. This crate owns the numbers for what is there; the calls are c_metrics's and c_consensus's. Uses lists, refusals, settings,
+// replies, duplex_kind, duplex_metrics, duplex_reply, molecule_strand, molecule_errors, molecule_consensus, c_record, c_metrics and
+// c_consensus.
 #![tactic(auto)]
 
-ghost use Rattle.std.specs.Prelude.{◌≡◌, ◌||◌, is_some};
+ghost use Rattle.std.specs.Prelude.{◌≡◌, is_some};
 ghost use Rattle.replies.specs.Choices.{yes};
 ghost use Rattle.duplex_metrics.specs.Metrics.{input};
-ghost use Rattle.molecule_strand.specs.Strand.{wrong_encoded_pattern};
 ghost use Rattle.molecule_errors.specs.Run.{run_in};
 ghost use Rattle.c_record.specs.Lent.{bytes_out, SameBytes};
 ghost use Rattle.c_record.specs.Outputs.{record_bytes};
 ghost use Rattle.c_metrics.specs.Bytes.{seen, MetricsEntry};
-ghost use Rattle.c_interface.specs.Entry.{told, strand_given, strand_told, told_by, ConsensusOf, ConsensusEntry};
+ghost use Rattle.c_interface.specs.Entry.{strand_given, strand_told, told_by, ConsensusOf, ConsensusEntry};
 
 use c_consensus::duplex_consensus_bytes;
 use c_metrics::metrics_of_bytes;
@@ -22,10 +22,31 @@ use duplex_reply::DuplexRecord;
 use molecule_consensus::EncodedMolecule;
 use molecule_strand::{EncodedStrand, encoded_annotation_in};
 use refusals::Refusal;
+use settings::GivenSettings;
+
+// What C tells of a strand beside its arrays. Present or annotated: 0 is no, any other number yes; a pattern is 0 for C to T, 1 for G to A.
+#[repr(C)]
+#[derive(Clone, Copy)]
+pub struct ToldEncodedStrand {
+    pub present: u8,
+    pub annotated: u8,
+    pub pattern: u8,
+}
+
+// And of a molecule, whose source reads may be listed: 0 is no, any other number yes.
+#[repr(C)]
+#[derive(Clone, Copy)]
+pub struct ToldEncodedMolecule {
+    pub a: ToldEncodedStrand,
+    pub b: ToldEncodedStrand,
+    pub listed: u8,
+    pub settings: GivenSettings,
+}
 
 // A strand as C gives it, as far as it is looked at: nothing of one that is not there, and its pattern and evidence only with an
 // annotation. Refuses by 13 a pattern that is looked at and stands for nothing. An annotation that s has is not looked at: C's flag and
 // byte tell of it. Flags beside values are the C interface's, here and in molecule_strand's functions of them.
+// By its three numbers, not by a ToldEncodedStrand: an entry that takes no settings has them so.
 #[tactic(auto, unfolding(lists::specs::Part::only_if))]
 pub fn strand_told<'a>(
     present: u8,
@@ -45,13 +66,14 @@ pub fn strand_told<'a>(
 
 // The combination of two strands, each of which may be refused.
 fn consensus(
+    given: GivenSettings,
     a: Result<Option<EncodedStrand>, Refusal>,
     b: Result<Option<EncodedStrand>, Refusal>,
     run: Option<&[u8]>,
     out: &mut ByteOutputs<'_>,
 ) -> Result<Option<DuplexConsensus>, Refusal>
     ensures same_references { SameBytes out.old out.new }
-    ensures made { ConsensusOf (told_by a.entry) (told_by b.entry) (is_some run.entry) (run_in run.entry)
+    ensures made { ConsensusOf given (told_by a.entry) (told_by b.entry) (is_some run.entry) (run_in run.entry)
         (bytes_out out.old)
         (bytes_out out.new)
         result }
@@ -61,32 +83,25 @@ fn consensus(
         b: b?,
         reads: run,
     };
-    duplex_consensus_bytes(m, out)
+    duplex_consensus_bytes(given, m, out)
 }
 
 // The duplex record of two strands, document 01's combination, as bytes. Of a strand that is not there nothing is looked at, and its
-// pattern and evidence only with an annotation; reads are a run of whole fields 30, looked at where they are listed. What is there,
-// annotated or listed is 0 for no, any other number for yes; a pattern is 0 for C to T, 1 for G to A. Refuses by 13, 7, 8, 9, then
-// by 12 for what is written.
+// pattern and evidence only with an annotation; reads are a run of whole fields 30, looked at where they are listed. Refuses by 13, 14, 7,
+// 8, 9, then by 12 for what is written.
 #[unsafe(no_mangle)]
 pub extern "C" fn gedrashiw_duplex_consensus(
-    a_present: u8,
-    a_annotated: u8,
-    a_pattern: u8,
+    molecule: ToldEncodedMolecule,
     a_bases: &[u8],
     a_quals: &[u8],
     a_depths: &[u8],
     a_errors: &[u8],
     a_evidence: &[u8],
-    b_present: u8,
-    b_annotated: u8,
-    b_pattern: u8,
     b_bases: &[u8],
     b_quals: &[u8],
     b_depths: &[u8],
     b_errors: &[u8],
     b_evidence: &[u8],
-    listed: u8,
     reads: &[u8],
     bases_out: &mut [u8],
     quals_out: &mut [u8],
@@ -94,11 +109,10 @@ pub extern "C" fn gedrashiw_duplex_consensus(
     a_evidence_out: &mut [u8],
     b_evidence_out: &mut [u8],
 ) -> DuplexRecord
-    ensures { ConsensusEntry
-        (wrong_encoded_pattern (told a_present a_annotated) a_pattern || wrong_encoded_pattern (told b_present b_annotated) b_pattern)
-        (strand_given a_present a_annotated a_pattern a_bases.now a_quals.now a_depths.now a_errors.now a_evidence.now)
-        (strand_given b_present b_annotated b_pattern b_bases.now b_quals.now b_depths.now b_errors.now b_evidence.now)
-        (yes listed) reads.now
+    ensures { ConsensusEntry molecule
+        (strand_given molecule.a.present molecule.a.annotated molecule.a.pattern a_bases.now a_quals.now a_depths.now a_errors.now a_evidence.now)
+        (strand_given molecule.b.present molecule.b.annotated molecule.b.pattern b_bases.now b_quals.now b_depths.now b_errors.now b_evidence.now)
+        reads.now
         (record_bytes bases_out.old quals_out.old errors_out.old a_evidence_out.old b_evidence_out.old)
         (record_bytes bases_out.new quals_out.new errors_out.new a_evidence_out.new b_evidence_out.new)
         result }
@@ -112,12 +126,12 @@ pub extern "C" fn gedrashiw_duplex_consensus(
         a_evidence: a_evidence_out,
         b_evidence: b_evidence_out,
     };
-    DuplexRecord::from(consensus(
-        strand_told(a_present, a_annotated, a_pattern, a, a_evidence),
-        strand_told(b_present, b_annotated, b_pattern, b, b_evidence),
-        (listed != 0).then_some(reads),
-        &mut out,
-    ))
+    let told = molecule.a;
+    let a = strand_told(told.present, told.annotated, told.pattern, a, a_evidence);
+    let told = molecule.b;
+    let b = strand_told(told.present, told.annotated, told.pattern, b, b_evidence);
+    let run = (molecule.listed != 0).then_some(reads);
+    DuplexRecord::from(consensus(molecule.settings, a, b, run, &mut out))
 }
 
 // The metrics of a record, document 01's "Metrics", as 40 bytes: aD, aM, aE, bD, bM, bE, cD, cM, cE, nc. Depths and errors are

@@ -13,33 +13,27 @@ ghost use Rattle.duplex_tags.specs.Tags.{count_arrays};
 ghost use Rattle.rust_methylation.specs.Entries.{duplex_arrays};
 ghost use Rattle.c_tags.specs.Tags.{annotation_bytes, TagsEntry};
 
+use c_interface::ToldEncodedMolecule;
 use duplex_reply::DuplexRecord;
 use rust_methylation::DuplexTagsReply;
 use rust_reason::Reason;
 
 // The duplex record of two strands, document 01's combination, as bytes. Of a strand that is not there nothing is looked at, and its
-// pattern and evidence only with an annotation; reads are a run of whole fields 30, looked at where they are listed. What is there,
-// annotated or listed is 0 for no, any other number for yes; a pattern is 0 for C to T, 1 for G to A. Refuses by 13, 7, 8, 9, then
-// by 12 for what is written.
+// pattern and evidence only with an annotation; reads are a run of whole fields 30, looked at where they are listed. Refuses by 13, 14, 7,
+// 8, 9, then by 12 for what is written.
 #[unsafe(no_mangle)]
 pub extern "C" fn gedrashiw_duplex_consensus(
-    a_present: u8,
-    a_annotated: u8,
-    a_pattern: u8,
+    molecule: ToldEncodedMolecule,
     a_bases: &[u8],
     a_quals: &[u8],
     a_depths: &[u8],
     a_errors: &[u8],
     a_evidence: &[u8],
-    b_present: u8,
-    b_annotated: u8,
-    b_pattern: u8,
     b_bases: &[u8],
     b_quals: &[u8],
     b_depths: &[u8],
     b_errors: &[u8],
     b_evidence: &[u8],
-    listed: u8,
     reads: &[u8],
     bases_out: &mut [u8],
     quals_out: &mut [u8],
@@ -47,33 +41,26 @@ pub extern "C" fn gedrashiw_duplex_consensus(
     a_evidence_out: &mut [u8],
     b_evidence_out: &mut [u8],
 ) -> DuplexRecord
-    ensures { ConsensusEntry
-        (wrong_encoded_pattern (told a_present a_annotated) a_pattern || wrong_encoded_pattern (told b_present b_annotated) b_pattern)
-        (strand_given a_present a_annotated a_pattern a_bases.now a_quals.now a_depths.now a_errors.now a_evidence.now)
-        (strand_given b_present b_annotated b_pattern b_bases.now b_quals.now b_depths.now b_errors.now b_evidence.now)
-        (yes listed) reads.now
+    ensures { ConsensusEntry molecule
+        (strand_given molecule.a.present molecule.a.annotated molecule.a.pattern a_bases.now a_quals.now a_depths.now a_errors.now a_evidence.now)
+        (strand_given molecule.b.present molecule.b.annotated molecule.b.pattern b_bases.now b_quals.now b_depths.now b_errors.now b_evidence.now)
+        reads.now
         (record_bytes bases_out.old quals_out.old errors_out.old a_evidence_out.old b_evidence_out.old)
         (record_bytes bases_out.new quals_out.new errors_out.new a_evidence_out.new b_evidence_out.new)
         result }
 {
     c_interface::gedrashiw_duplex_consensus(
-        a_present,
-        a_annotated,
-        a_pattern,
+        molecule,
         a_bases,
         a_quals,
         a_depths,
         a_errors,
         a_evidence,
-        b_present,
-        b_annotated,
-        b_pattern,
         b_bases,
         b_quals,
         b_depths,
         b_errors,
         b_evidence,
-        listed,
         reads,
         bases_out,
         quals_out,
@@ -107,7 +94,7 @@ pub extern "C" fn gedrashiw_metrics(
 // Why a position of the record that two strands make shows N: `no_call_reason` over bytes. Depths and errors are two bytes a position,
 // evidence nine (mark, unconverted, converted). What is there or annotated is 0 for no, any other number for yes; a pattern is 0 for C to
 // T, 1 for G to A. Of a strand that is not there nothing is looked at, and its pattern and evidence only with an annotation. Refuses by
-// 13, 7, 8, as `gedrashiw_duplex_consensus` does without reads, whether or not there is a record.
+// 13, 7, 8, as `gedrashiw_duplex_consensus` does without reads and with settings that pass, whether or not there is a record.
 #[unsafe(no_mangle)]
 pub extern "C" fn gedrashiw_no_call_reason(
     a_present: u8,

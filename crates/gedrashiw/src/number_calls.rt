@@ -1,27 +1,29 @@
 // What one position, one number or one read says. The calls are those of rust_numbers.
 ghost use Rattle.std.specs.Prelude.{◌≡◌, length, cond};
-ghost use Rattle.phred.specs.Phred.{capped_quality};
+ghost use Rattle.phred.specs.Phred.{capped_quality, ceiling_faults};
 ghost use Rattle.caller.specs.Short.{short, short_of};
 ghost use Rattle.rates.specs.Rate.{bits_of};
 ghost use Rattle.caller.specs.Rate.{error_rate};
 ghost use Rattle.rust_numbers.specs.Replies.{rate_reply, bit, no_bases, bases_reply, call_reply};
+ghost use Rattle.refusals.specs.Refusal.{refused};
 ghost use Rattle.refusals.specs.Outcome.{answer, after};
 ghost use Rattle.caller.specs.Name.{read_name, name_refused};
 ghost use Rattle.methylation.specs.Methylation.{is_enabled, pattern_of_flags, pattern_bases, is_cpg_context};
 ghost use Rattle.methylation.specs.Choices.{mode_of, wrong_mode, pattern_number, pattern_of, wrong_pattern};
 ghost use Rattle.replies.specs.Choices.{yes};
-ghost use Rattle.replies.specs.Replies.{count_reply, no_number, numbered};
+ghost use Rattle.replies.specs.Replies.{count_reply, number_reply, no_number, numbered};
 ghost use Rattle.duplex_reads.specs.Reads.{is_paired, is_paired_r1, is_paired_r2};
 ghost use Rattle.duplex_molecule.specs.Molecule.{is_error, molecule_call};
 
 use replies::{Count, Number};
 use rust_numbers::{Bases, Call};
 
+// A score held to 2 and a ceiling. Refuses by 14.
 #[unsafe(no_mangle)]
-pub extern "C" fn gedrashiw_cap_quality(score: u16) -> u8
-    ensures { result ≡ capped_quality score }
+pub extern "C" fn gedrashiw_cap_quality(score: u16, ceiling: u8) -> Number
+    ensures { result ≡ number_reply (answer (refused (ceiling_faults ceiling)) (capped_quality ceiling score)) }
 {
-    rust_numbers::gedrashiw_cap_quality(score)
+    rust_numbers::gedrashiw_cap_quality(score, ceiling)
 }
 
 #[unsafe(no_mangle)]

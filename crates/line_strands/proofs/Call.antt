@@ -8,6 +8,7 @@ use lib.ListN.{length}
 use Rattle.molecule_strand.specs.Strand.{StrandBytes}
 use Rattle.duplex_outputs.specs.Outputs.{RecordArrays, record_of}
 use Rattle.std.proofs.Common.{Option, Result}
+use Rattle.settings.specs.Settings.{usual}
 use Rattle.refusals.specs.declared.Refusal.{Refusal}
 use Rattle.refusals.specs.Outcome.{by_number, zeros}
 use Rattle.duplex_kind.specs.declared.DuplexConsensus.{DuplexConsensus}
@@ -26,7 +27,7 @@ buffers = record_of zeros zeros zeros zeros zeros zeros zeros zeros zeros
 ample : Ample buffers
 ample = zeros_ample
 
-module _ (ts : List ℕ) (a b : StrandBytes) (listed : Bool) (run : List ℕ) {now : RecordArrays} {made : Result (Option DuplexConsensus) Refusal} (e : BytesAs (seen a) (seen b) listed run buffers now made) where
+module _ (ts : List ℕ) (a b : StrandBytes) (listed : Bool) (run : List ℕ) {now : RecordArrays} {made : Result (Option DuplexConsensus) Refusal} (e : BytesAs usual (seen a) (seen b) listed run buffers now made) where
   abbrev found : List ℕ
   found = answer_text (by_number made) (strands (counts_of a) (counts_of b)) ts (columns now.bases now.quals now.errors)
 

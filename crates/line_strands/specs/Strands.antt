@@ -1,8 +1,9 @@
 -- The text for two strands given as bytes and a list of reads that is a run, document 01's line program: what the library's call on
--- them answers, and leaves in output buffers of 1,024 places that start as zeros.
+-- them answers by the usual settings, and leaves in output buffers of 1,024 places that start as zeros.
 use Rattle.std.specs.Prelude.{ℕ, Bool, Option, Result, List}
 use Rattle.refusals.specs.declared.Refusal.{Refusal}
 use Rattle.refusals.specs.Outcome.{answer, after, by_number, zeros}
+use Rattle.settings.specs.Settings.{usual}
 use Rattle.byte_numbers.specs.Bytes.{words16}
 use Rattle.molecule_strand.specs.Strand.{StrandBytes, strand_of}
 use Rattle.duplex_outputs.specs.Outputs.{RecordArrays}
@@ -21,7 +22,7 @@ abbrev pub answer_of : StrandBytes → StrandBytes → Bool → List ℕ → Res
 answer_of a b listed run = answer (refusal_of a b listed run) (kind_of (strand_of (seen a)) (strand_of (seen b)))
 
 abbrev pub record_in : StrandBytes → StrandBytes → Bool → List ℕ → RecordArrays
-record_in a b listed run = bytes_record (seen a) (seen b) listed run
+record_in a b listed run = bytes_record usual (seen a) (seen b) listed run
 
 -- The depths and errors of a strand.
 abbrev pub counts_of : StrandBytes → Counts

@@ -1,6 +1,6 @@
 // The text that duplexline prints for two strands given as bytes, once the thresholds are known to be valid. Uses refusals,
-// byte_numbers, duplex_outputs, duplex_kind, duplex_metrics, molecule_strand, molecule_errors, molecule_consensus, line_format, line_record
-// and line_report.
+// settings, byte_numbers, duplex_outputs, duplex_kind, duplex_metrics, molecule_strand, molecule_errors, molecule_consensus, line_format,
+// line_record and line_report.
 #![tactic(auto)]
 
 ghost use Rattle.std.specs.Prelude.{◌≡◌, is_some};
@@ -18,6 +18,7 @@ use line_record::{Line, record_line};
 use molecule_consensus::{EncodedMolecule, RecordBuffers};
 use molecule_strand::EncodedStrand;
 use refusals::Refusal;
+use settings::Settings;
 
 // The depths and errors of a strand; an absent one has none.
 fn count_bytes<'a>(s: Option<EncodedStrand<'a>>) -> Counts<'a, u8>
@@ -39,12 +40,12 @@ fn numbered(made: Result<Option<DuplexConsensus>, Refusal>) -> Result<Option<Dup
     made.map_err(Refusal::number)
 }
 
-// The record of two strands, of one or of none, and its line.
+// The record of two strands, of one or of none, by the usual settings, and its line.
 pub fn strands_line(m: EncodedMolecule, min_reads: &[u32]) -> Line
     ensures { Holds (strands_text min_reads.now (encoded_in m.entry.a) (encoded_in m.entry.b) (is_some m.entry.reads) (run_in m.entry.reads)) result }
 {
     let mut own = RecordBuffers::zeros();
-    let made = own.duplex_consensus_of_bytes(m);
+    let made = own.duplex_consensus_of_bytes(Settings::usual(), m);
     let row = RecordColumns {
         bases: &own.bases,
         quals: &own.quals,

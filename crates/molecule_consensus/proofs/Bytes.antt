@@ -19,6 +19,7 @@ use Rattle.refusals.specs.declared.Refusal.TheVariants.{Broken, TooLong}
 use Rattle.refusals.specs.Refusal.{refused}
 use Rattle.refusals.specs.Outcome.{answer}
 use Rattle.refusals.proofs.Condition.{neither}
+use Rattle.settings.specs.declared.GivenSettings.{GivenSettings}
 use Rattle.byte_numbers.specs.Bytes.{number_of, odd_count}
 use Rattle.byte_numbers.proofs.Groups.{length_by_group}
 use Rattle.methylation.specs.Methylation.{is_annotated}
@@ -130,7 +131,7 @@ or_true true q = refl
 or_true false true = refl
 or_true false false = refl
 
-module _ (a b : Option EncodedStrand) (listed : Bool) (run : List ℕ) (before : RecordArrays) where
+module _ (lab : GivenSettings) (a b : Option EncodedStrand) (listed : Bool) (run : List ℕ) (before : RecordArrays) where
   abbrev A : StrandBytes
   A = seen (encoded_in a)
 
@@ -141,13 +142,13 @@ module _ (a b : Option EncodedStrand) (listed : Bool) (run : List ℕ) (before :
   kind = kind_of (strand_of A) (strand_of B)
 
   -- Refused with a row.
-  down : (row : Refusal) → bytes_refused A B listed run before ≡ Some row → BytesAs A B listed run before before (Err row)
+  down : (row : Refusal) → bytes_refused A B listed run before ≡ Some row → BytesAs lab A B listed run before before (Err row)
   down row e = record {
     answered = rw e;
-    outputs = subst (λ (x : Option Refusal). LeavesRecord x (bytes_record A B listed run) before before) (sym e) (record_refused row (bytes_record A B listed run) before);
+    outputs = subst (λ (x : Option Refusal). LeavesRecord x (bytes_record lab A B listed run) before before) (sym e) (record_refused row (bytes_record lab A B listed run) before);
   }
 
-  pub torn_down : (listed && not (is_run run)) ≡ true → BytesAs A B listed run before before (Err Broken)
+  pub torn_down : (listed && not (is_run run)) ≡ true → BytesAs lab A B listed run before before (Err Broken)
   torn_down t =
       let met : broken A B listed run ≡ true = rw t (or_true (misfit A) (misfit B)) in
       down Broken (rw met)
@@ -160,7 +161,7 @@ module _ (a b : Option EncodedStrand) (listed : Bool) (run : List ℕ) (before :
     long_is : (long_in (encoded_in a) || long_in (encoded_in b)) ≡ (long (given (strand_of A)) || long (given (strand_of B)))
     long_is = rw (same_long (encoded_in a), same_long (encoded_in b))
 
-    pub turned_down : {row : Refusal} → answer (refused (early_faults (encoded_in a) (encoded_in b))) (tt {0}) ≡ Err row → BytesAs A B listed run before before (Err row)
+    pub turned_down : {row : Refusal} → answer (refused (early_faults (encoded_in a) (encoded_in b))) (tt {0}) ≡ Err row → BytesAs lab A B listed run before before (Err row)
     turned_down {row} e = down row (first_two (broken A B listed run) (long (given (strand_of A)) || long (given (strand_of B))) _ (rw (met_is, long_is) at e))
 
     module _ {x : Unit {0}} (e : answer (refused (early_faults (encoded_in a) (encoded_in b))) (tt {0}) ≡ Ok x) where
@@ -178,8 +179,8 @@ module _ (a b : Option EncodedStrand) (listed : Bool) (run : List ℕ) (before :
       same_refused : duplex_refused (strand_of A) (strand_of B) listed (length (reads_of run)) false before ≡ bytes_refused A B listed run before
       same_refused = rw none_met.0
 
-      pub passed_on : {now : RecordArrays} {r : Result (Option DuplexConsensus) Refusal} → DuplexAs (strand_of A) (strand_of B) listed (length (reads_of run)) false (run_errors (strand_of A) (strand_of B) run) before now r → BytesAs A B listed run before now r
+      pub passed_on : {now : RecordArrays} {r : Result (Option DuplexConsensus) Refusal} → DuplexAs lab (strand_of A) (strand_of B) listed (length (reads_of run)) false (run_errors (strand_of A) (strand_of B) run) before now r → BytesAs lab A B listed run before now r
       passed_on {now} d = record {
         answered = d.answered ∙ ap (λ (m : Option Refusal). answer m kind) same_refused;
-        outputs = subst (λ (m : Option Refusal). LeavesRecord m (bytes_record A B listed run) before now) same_refused d.outputs;
+        outputs = subst (λ (m : Option Refusal). LeavesRecord m (bytes_record lab A B listed run) before now) same_refused d.outputs;
       }

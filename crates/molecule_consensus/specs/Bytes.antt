@@ -1,11 +1,12 @@
 -- The duplex record of strands given as bytes, document 01's forms for the viewer and for an encoded molecule: depths and errors
 -- two bytes a position, low byte first, evidence nine, and the reads as a run.
-use Rattle.std.specs.Prelude.{ℕ, ◌%◌, ◌≡◌, Bool, false, not, ◌&&◌, ◌||◌, Option, None, Result, List, [], ◌∷◌, eqb, length}
+use Rattle.std.specs.Prelude.{ℕ, ◌%◌, ◌≡◌, Bool, false, not, ◌&&◌, ◌||◌, Option, Result, List, ◌∷◌, eqb, length}
 use Rattle.lists.specs.Part.{only_if}
 use Rattle.refusals.specs.declared.Refusal.TheVariants.{Broken}
 use Rattle.refusals.specs.declared.Refusal.{Refusal}
 use Rattle.refusals.specs.Refusal.{Fault, ◌if◌, refused}
 use Rattle.refusals.specs.Outcome.{answer}
+use Rattle.settings.specs.declared.GivenSettings.{GivenSettings}
 use Rattle.methylation.specs.Methylation.{is_annotated}
 use Rattle.byte_numbers.specs.Bytes.{odd_count}
 use Rattle.molecule_fields.specs.Widths.{is_run}
@@ -40,14 +41,17 @@ abbrev pub bytes_refused : StrandBytes → StrandBytes → Bool → List ℕ →
 bytes_refused a b listed run out = refused (bytes_faults a b listed run out)
 
 -- The rows that are tested over all that is given: what refuses a call whose outputs are long enough.
-abbrev pub inputs_refused : StrandBytes → StrandBytes → Bool → List ℕ → Option Refusal
-inputs_refused a b listed run = refused ((Broken if broken a b listed run) ∷ strand_faults (strand_of a) (strand_of b) listed (length (reads_of run)) false)
+abbrev pub inputs_faults : StrandBytes → StrandBytes → Bool → List ℕ → List Fault
+inputs_faults a b listed run = (Broken if broken a b listed run) ∷ strand_faults (strand_of a) (strand_of b) listed (length (reads_of run)) false
 
--- What the library's call writes.
-abbrev pub bytes_record : StrandBytes → StrandBytes → Bool → List ℕ → RecordArrays
-bytes_record a b listed run = record_arrays (strand_of a) (strand_of b) listed (run_errors (strand_of a) (strand_of b) run) (kind_of (strand_of a) (strand_of b))
+abbrev pub inputs_refused : StrandBytes → StrandBytes → Bool → List ℕ → Option Refusal
+inputs_refused a b listed run = refused (inputs_faults a b listed run)
+
+-- What the library's call writes, by a lab's settings.
+abbrev pub bytes_record : GivenSettings → StrandBytes → StrandBytes → Bool → List ℕ → RecordArrays
+bytes_record lab a b listed run = record_arrays lab (strand_of a) (strand_of b) listed (run_errors (strand_of a) (strand_of b) run) (kind_of (strand_of a) (strand_of b))
 
 -- What a call answers and leaves in its outputs, given what is looked at.
-pub record BytesAs (a b : StrandBytes) (listed : Bool) (run : List ℕ) (before now : RecordArrays) (r : Result (Option DuplexConsensus) Refusal) : Type 0 where
+pub record BytesAs (lab : GivenSettings) (a b : StrandBytes) (listed : Bool) (run : List ℕ) (before now : RecordArrays) (r : Result (Option DuplexConsensus) Refusal) : Type 0 where
   pub answered : r ≡ answer (bytes_refused a b listed run before) (kind_of (strand_of a) (strand_of b))
-  pub outputs : LeavesRecord (bytes_refused a b listed run before) (bytes_record a b listed run) before now
+  pub outputs : LeavesRecord (bytes_refused a b listed run before) (bytes_record lab a b listed run) before now

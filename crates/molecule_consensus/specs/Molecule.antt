@@ -1,6 +1,7 @@
 -- A molecule given as bytes, as the code has it: two strands, each of which may be absent, and a list of reads, which are a run.
 use Rattle.std.specs.Prelude.{ℕ, Bool, Option, Result, List, is_some, replicate}
 use Rattle.refusals.specs.declared.Refusal.{Refusal}
+use Rattle.settings.specs.declared.GivenSettings.{GivenSettings}
 use Rattle.duplex_outputs.specs.Outputs.{RecordArrays, record_of}
 use Rattle.duplex_kind.specs.declared.DuplexConsensus.{DuplexConsensus}
 use Rattle.molecule_strand.specs.Strand.{StrandBytes, encoded_in}
@@ -23,8 +24,8 @@ abbrev pub seen_of : MoleculeBytes → MoleculeBytes
 seen_of m = record { a = seen m.a; b = seen m.b; listed = m.listed; run = m.run }
 
 -- What a call answers and leaves in its outputs, given what is looked at.
-abbrev pub MoleculeAs : MoleculeBytes → RecordArrays → RecordArrays → Result (Option DuplexConsensus) Refusal → Type 0
-MoleculeAs m before now r = BytesAs m.a m.b m.listed m.run before now r
+abbrev pub MoleculeAs : GivenSettings → MoleculeBytes → RecordArrays → RecordArrays → Result (Option DuplexConsensus) Refusal → Type 0
+MoleculeAs lab m before now r = BytesAs lab m.a m.b m.listed m.run before now r
 
 -- Arrays of 1,024 places each, as a call begins with them.
 abbrev pub zero_buffers : RecordArrays

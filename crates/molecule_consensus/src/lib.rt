@@ -1,10 +1,11 @@
 // The duplex record of strands given as bytes: what an encoded molecule and the entry points for C have in common. What is looked at,
 // rows 13 and 7 and the numbers are molecule_strand's, the record duplex_record's, the reads molecule_errors's.
-// Uses lists, refusals, methylation, vanilla_caller, byte_numbers, molecule_evidence, molecule_strand, molecule_fields, molecule_reads,
-// duplex_kind, duplex_outputs, duplex_record and molecule_errors.
+// Uses lists, refusals, settings, methylation, vanilla_caller, byte_numbers, molecule_evidence, molecule_strand, molecule_fields,
+// molecule_reads, duplex_kind, duplex_outputs, duplex_record and molecule_errors.
 #![tactic(auto)]
 
 ghost use Rattle.std.specs.Prelude.{◌≡◌};
+ghost use Rattle.settings.specs.Settings.{given_of as lab_of};
 ghost use Rattle.methylation.specs.Outputs.{evidence_out, SameEvidence};
 ghost use Rattle.duplex_outputs.specs.Lent.{record_out, SameOutputs};
 ghost use Rattle.duplex_kind.specs.Kind.{given_of};
@@ -20,6 +21,7 @@ use molecule_errors::{count_errors, read_list};
 use molecule_evidence::EvidenceBuffers;
 use molecule_strand::{EncodedStrand, byte_lengths, early_refusal, read_strand, strand_of_numbers};
 use refusals::Refusal;
+use settings::Settings;
 use vanilla_caller::VanillaConsensusRead;
 
 // A molecule whose numbers are bytes and whose reads are a run: each strand may be absent, and so may the list of reads.
@@ -76,13 +78,14 @@ impl StrandBuffers {
 // not looked at without an annotation. Refuses by 13, 7, 8, 9, then by 12 for what is written. No struct of all outputs: who makes one
 // that nests lent structs learns nothing of what their slices hold.
 pub fn duplex_consensus_of_bytes(
+    settings: Settings,
     m: EncodedMolecule,
     out: &mut RecordOutputs<'_>,
     a_out: &mut EvidenceOutputs<'_>,
     b_out: &mut EvidenceOutputs<'_>,
 ) -> Result<Option<DuplexConsensus>, Refusal>
     ensures same_references { SameOutputs out.old out.new × SameEvidence a_out.old a_out.new × SameEvidence b_out.old b_out.new }
-    ensures made { MoleculeAs (seen_of (molecule_in m.entry))
+    ensures made { MoleculeAs (lab_of settings) (seen_of (molecule_in m.entry))
         (record_out out.old (evidence_out a_out.old) (evidence_out b_out.old))
         (record_out out.new (evidence_out a_out.new) (evidence_out b_out.new))
         result }
@@ -95,7 +98,7 @@ pub fn duplex_consensus_of_bytes(
     b_numbers.read(m.b);
     let a_read = a_numbers.strand(m.a);
     let b_read = b_numbers.strand(m.b);
-    let made = duplex_record(a_read, b_read, list, out, a_out, b_out);
+    let made = duplex_record(settings, a_read, b_read, list, out, a_out, b_out);
     count_errors(made, m.reads, a_read, b_read, out.errors);
     made
 }
@@ -128,9 +131,10 @@ impl RecordBuffers {
     // `duplex_consensus_of_bytes` with these as its outputs.
     pub fn duplex_consensus_of_bytes(
         &mut self,
+        settings: Settings,
         m: EncodedMolecule,
     ) -> Result<Option<DuplexConsensus>, Refusal>
-        ensures { MoleculeAs (seen_of (molecule_in m.entry)) (buffers_in self.old) (buffers_in self.new) result }
+        ensures { MoleculeAs (lab_of settings) (seen_of (molecule_in m.entry)) (buffers_in self.old) (buffers_in self.new) result }
     {
         let mut own = RecordOutputs {
             bases: &mut self.bases,
@@ -147,6 +151,6 @@ impl RecordBuffers {
             unconverted: &mut self.b.unconverted,
             converted: &mut self.b.converted,
         };
-        duplex_consensus_of_bytes(m, &mut own, &mut a_evidence, &mut b_evidence)
+        duplex_consensus_of_bytes(settings, m, &mut own, &mut a_evidence, &mut b_evidence)
     }
 }
