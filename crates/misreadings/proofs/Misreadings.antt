@@ -5,12 +5,13 @@ use Rattle.lists.specs.Count.{count_if, count_of}
 use Rattle.lists.specs.Part.{leaves, only_if}
 use Rattle.lists.specs.Table.{tabulate}
 use Rattle.numbers.specs.Numbers.{saturating_add}
+use Rattle.settings.specs.declared.GivenSettings.{GivenSettings}
 use Rattle.dna.specs.Dna.{upper}
 use Rattle.phred.specs.Phred.{capped_quality}
 use Rattle.flags.specs.Flags.{is_set}
 use Rattle.rates.specs.Rate.{rate_of}
 use Rattle.duplex_molecule.specs.Molecule.{is_error, molecule_call, ct_input, call_at}
-use Rattle.duplex_position.specs.Combination.{agreed, disagreed, masked, uncalled}
+use Rattle.duplex_position.specs.Combination.{agreed, disagreed, masked, unmasked, uncalled}
 use Rattle.duplex_errors.specs.Errors.{agreeing, disagreeing}
 use Rattle.duplex_call.specs.Annotated.{combined, estimated_uncalled, estimated, expected}
 use Rattle.duplex_arrays.specs.Positions.{combined_bases, estimates, combined_errors}
@@ -42,28 +43,31 @@ figures = record {
   ten_figures = refl;
 }
 
-pub estimates_by_winner : Estimates
+pub estimates_by_winner : (lab : GivenSettings) → Estimates lab
 unfolding ct_input combined_errors estimates tabulate estimated estimated_uncalled call_at molecule_call upper agreeing disagreeing
-estimates_by_winner = record {
+estimates_by_winner lab = record {
   a_wins = refl;
   b_wins = refl;
   a_wins_ties = refl;
   call_adds = refl;
 }
 
-pub unmasked_base : UnmaskedBase
-unfolding ct_input combined_errors combined_bases tabulate combined call_at uncalled masked agreed disagreed capped_quality list_errors read_errors read_error reaches read_leaves leaves count_of count_if expected is_set is_error
-unmasked_base = record {
+pub unmasked_base : (lab : GivenSettings) → UnmaskedBase lab
+unfolding ct_input combined_errors combined_bases tabulate combined call_at uncalled unmasked masked agreed disagreed capped_quality list_errors read_errors read_error reaches read_leaves leaves count_of count_if expected is_set is_error
+unmasked_base lab = record {
   masked = refl;
   masked_error = refl;
   masked_none = refl;
+  close = refl;
+  close_b = refl;
+  low_sum = refl;
   beside_n = refl;
   below_n = refl;
 }
 
-pub reads_at_calls : ReadsAtCalls
-unfolding ct_input combined_errors tabulate call_at molecule_call upper uncalled masked disagreed capped_quality list_errors read_errors read_error reaches read_leaves leaves count_of count_if expected is_set is_error
-reads_at_calls = record {
+pub reads_at_calls : (lab : GivenSettings) → ReadsAtCalls lab
+unfolding ct_input combined_errors tabulate call_at molecule_call upper list_errors read_errors read_error reaches read_leaves leaves count_of count_if expected is_set is_error
+reads_at_calls lab = record {
   c_to_t_first = refl;
   c_to_t_last = refl;
   g_to_a_first = refl;

@@ -2,6 +2,8 @@
 -- where both are changed in the same wrong way. These rows do: they are the definitions' own values, worked out by hand. With P1 to P12
 -- (crates/positions) and the papers' values (crates/papers) this is the page to read first.
 use Rattle.std.specs.Prelude.{None, Some, Option, Ok, ◌≡◌, true, false, [], ◌∷◌, ℕ}
+use Rattle.settings.specs.Settings.{usual}
+use Rattle.settings.specs.declared.GivenSettings.{GivenSettings}
 use Rattle.dna.specs.Dna.{letter_a, letter_c, letter_g, letter_n, letter_t, lower_n}
 use Rattle.methylation.specs.Methylation.{pattern_of_flags}
 use Rattle.methylation.specs.declared.ConversionPattern.TheVariants.{CToT, GToA}
@@ -27,17 +29,17 @@ use Rattle.methylation.specs.declared.ConversionPattern.{ConversionPattern}
 abbrev pub one : Option ConversionPattern → ℕ → ℕ → ℕ → ℕ → Strand
 one annotation base qual depth errors = strand true annotation (arrays (base ∷ []) (qual ∷ []) (depth ∷ []) (errors ∷ []) (0 ∷ []) (0 ∷ []) (0 ∷ []))
 
--- The record that two strands make without a list of reads.
-abbrev pub unlisted : Strand → Strand → RecordArrays
-unlisted a b = record_arrays a b false uncounted (kind_of a b)
+-- The record that two strands make without a list of reads, by a lab's settings.
+abbrev pub unlisted : GivenSettings → Strand → Strand → RecordArrays
+unlisted lab a b = record_arrays lab a b false uncounted (kind_of a b)
 
 -- And with a list of one read, of these flags and this one base.
 abbrev pub read : ℕ → SourceRead
 read flags = record { flags = flags; offset = 0; length = 1 }
 
-abbrev pub with_read : Strand → Strand → ℕ → ℕ → RecordArrays
-with_read a b flags base =
-    record_arrays a b true (list_errors (read flags ∷ []) (base ∷ []) (ct_input a.annotation b.annotation) a.arrays b.arrays) (kind_of a b)
+abbrev pub with_read : GivenSettings → Strand → Strand → ℕ → ℕ → RecordArrays
+with_read lab a b flags base =
+    record_arrays lab a b true (list_errors (read flags ∷ []) (base ∷ []) (ct_input a.annotation b.annotation) a.arrays b.arrays) (kind_of a b)
 
 -- A strand of depth 1 that is not annotated, and one of pattern C to T or G to A.
 abbrev pub plain : ℕ → ℕ → Strand
@@ -100,28 +102,35 @@ pub record Figures : Type 0 where
 
 -- ---- Errors without a list
 
-pub record Estimates : Type 0 where
+-- Whatever the ceiling.
+pub record Estimates (lab : GivenSettings) : Type 0 where
   -- Where the bases differ: the winner's errors, and of the loser its depth minus its errors. A wins: 1 + 7 - 2.
   -- B wins: 2 + 10 - 1. At equal qualities A wins. With winner and loser exchanged the first would be 11 and the second 6.
-  pub a_wins : (unlisted (one None letter_a 33 10 1) (one None letter_c 30 7 2)).errors ≡ 6 ∷ []
-  pub b_wins : (unlisted (one None letter_a 30 10 1) (one None letter_c 33 7 2)).errors ≡ 11 ∷ []
-  pub a_wins_ties : (unlisted (one None letter_a 30 10 1) (one None letter_c 30 7 2)).errors ≡ 6 ∷ []
+  pub a_wins : (unlisted lab (one None letter_a 33 10 1) (one None letter_c 30 7 2)).errors ≡ 6 ∷ []
+  pub b_wins : (unlisted lab (one None letter_a 30 10 1) (one None letter_c 33 7 2)).errors ≡ 11 ∷ []
+  pub a_wins_ties : (unlisted lab (one None letter_a 30 10 1) (one None letter_c 30 7 2)).errors ≡ 6 ∷ []
   -- At a call there is no winner: 1 + 2.
-  pub call_adds : (unlisted (one (Some CToT) letter_t 30 10 1) (one (Some GToA) letter_c 40 7 2)).errors ≡ 3 ∷ []
+  pub call_adds : (unlisted lab (one (Some CToT) letter_t 30 10 1) (one (Some GToA) letter_c 40 7 2)).errors ≡ 3 ∷ []
 
 -- ---- Errors of a list of reads
 
-pub record UnmaskedBase : Type 0 where
+-- Whatever the ceiling (the N itself is shown at 93): no base that errors are counted against is masked by it.
+pub record UnmaskedBase (lab : GivenSettings) : Type 0 where
   -- "Counting errors against the masked N": A and C with quality 30 each are written as N, but the base below is A, and a read is an error
   -- where it differs from that A. Against N no read would be one.
-  pub masked : (with_read (plain letter_a 30) (plain letter_c 30) 0 letter_c).bases ≡ letter_n ∷ []
-  pub masked_error : (with_read (plain letter_a 30) (plain letter_c 30) 0 letter_c).errors ≡ 1 ∷ []
-  pub masked_none : (with_read (plain letter_a 30) (plain letter_c 30) 0 letter_a).errors ≡ 0 ∷ []
+  pub masked : (with_read usual (plain letter_a 30) (plain letter_c 30) 0 letter_c).bases ≡ letter_n ∷ []
+  pub masked_error : (with_read lab (plain letter_a 30) (plain letter_c 30) 0 letter_c).errors ≡ 1 ∷ []
+  pub masked_none : (with_read lab (plain letter_a 30) (plain letter_c 30) 0 letter_a).errors ≡ 0 ∷ []
+  -- So at qualities that differ by 1 or 2, where the base below is the winner's, and at a sum of 2.
+  pub close : (with_read lab (plain letter_a 32) (plain letter_c 30) 0 letter_c).errors ≡ 1 ∷ []
+  pub close_b : (with_read lab (plain letter_a 30) (plain letter_c 31) 0 letter_c).errors ≡ 0 ∷ []
+  pub low_sum : (with_read lab (plain letter_a 1) (plain letter_a 1) 0 letter_c).errors ≡ 1 ∷ []
   -- So where B shows N: the base below is A's. Where N wins there is none, and no error.
-  pub beside_n : (with_read (plain letter_a 30) (plain letter_n 2) 0 letter_c).errors ≡ 1 ∷ []
-  pub below_n : (with_read (plain letter_a 2) (plain letter_n 30) 0 letter_c).errors ≡ 0 ∷ []
+  pub beside_n : (with_read lab (plain letter_a 30) (plain letter_n 2) 0 letter_c).errors ≡ 1 ∷ []
+  pub below_n : (with_read lab (plain letter_a 2) (plain letter_n 30) 0 letter_c).errors ≡ 0 ∷ []
 
-pub record ReadsAtCalls : Type 0 where
+-- Whatever the ceiling.
+pub record ReadsAtCalls (lab : GivenSettings) : Type 0 where
   -- What a read should show at a call. A read without the flag 0x80 is of pattern C to T, one with it of G to A. A read of the call's
   -- pattern should show what the informative strand does, any other the called base. C-to-T call, T shown and C confirmed: T without the
   -- flag, C with it.
@@ -139,16 +148,16 @@ pub record ReadsAtCalls : Type 0 where
   pub own_byte : expected IsA 116 30 letter_c 40 false ≡ 116
   -- The same in a record's errors, by the read's flags: paired and first 0x41, paired and last 0x81. A read that shows what it should is
   -- no error, one that shows what the other should is.
-  pub first_shows_t : (with_read (ct letter_t 30) (ga letter_c 40) 0x41 letter_t).errors ≡ 0 ∷ []
-  pub first_shows_c : (with_read (ct letter_t 30) (ga letter_c 40) 0x41 letter_c).errors ≡ 1 ∷ []
-  pub last_shows_t : (with_read (ct letter_t 30) (ga letter_c 40) 0x81 letter_t).errors ≡ 1 ∷ []
-  pub last_shows_c : (with_read (ct letter_t 30) (ga letter_c 40) 0x81 letter_c).errors ≡ 0 ∷ []
-  pub first_shows_g : (with_read (ct letter_g 30) (ga letter_a 40) 0x41 letter_g).errors ≡ 0 ∷ []
-  pub first_shows_a : (with_read (ct letter_g 30) (ga letter_a 40) 0x41 letter_a).errors ≡ 1 ∷ []
-  pub last_shows_g : (with_read (ct letter_g 30) (ga letter_a 40) 0x81 letter_g).errors ≡ 1 ∷ []
-  pub last_shows_a : (with_read (ct letter_g 30) (ga letter_a 40) 0x81 letter_a).errors ≡ 0 ∷ []
+  pub first_shows_t : (with_read lab (ct letter_t 30) (ga letter_c 40) 0x41 letter_t).errors ≡ 0 ∷ []
+  pub first_shows_c : (with_read lab (ct letter_t 30) (ga letter_c 40) 0x41 letter_c).errors ≡ 1 ∷ []
+  pub last_shows_t : (with_read lab (ct letter_t 30) (ga letter_c 40) 0x81 letter_t).errors ≡ 1 ∷ []
+  pub last_shows_c : (with_read lab (ct letter_t 30) (ga letter_c 40) 0x81 letter_c).errors ≡ 0 ∷ []
+  pub first_shows_g : (with_read lab (ct letter_g 30) (ga letter_a 40) 0x41 letter_g).errors ≡ 0 ∷ []
+  pub first_shows_a : (with_read lab (ct letter_g 30) (ga letter_a 40) 0x41 letter_a).errors ≡ 1 ∷ []
+  pub last_shows_g : (with_read lab (ct letter_g 30) (ga letter_a 40) 0x81 letter_g).errors ≡ 1 ∷ []
+  pub last_shows_a : (with_read lab (ct letter_g 30) (ga letter_a 40) 0x81 letter_a).errors ≡ 0 ∷ []
   -- A read without flags is C to T as well. So says the pattern of a read's flags.
-  pub no_flags_show_t : (with_read (ct letter_t 30) (ga letter_c 40) 0 letter_t).errors ≡ 0 ∷ []
+  pub no_flags_show_t : (with_read lab (ct letter_t 30) (ga letter_c 40) 0 letter_t).errors ≡ 0 ∷ []
   pub pattern_of_first : pattern_of_flags 0x41 ≡ CToT
   pub pattern_of_last : pattern_of_flags 0x81 ≡ GToA
   pub pattern_of_none : pattern_of_flags 0 ≡ CToT

@@ -86,9 +86,9 @@ pub record Sam : Type 0 where
   pub has_last : is_set 141 0x80 ≡ true
   pub not_first : is_set 141 0x40 ≡ false
   -- QUAL writes a quality as the character 33 above it, and the largest is 126, the tilde. Two strands' quality goes no higher,
-  -- whatever theirs are, at a call or not.
+  -- whatever theirs are, at a call or not, at any ceiling that does not.
   pub largest : 33 + max_phred ≡ 126
-  pub quality : (ct : CtInput) (a qa ma b qb mb : ℕ) → (combined ct a qa ma b qb mb).qual ≤ 93
+  pub quality : (ceiling : ℕ) (ct : CtInput) (a qa ma b qb mb : ℕ) → ceiling ≤ max_phred → (combined ceiling ct a qa ma b qb mb).qual ≤ 93
   -- A count of a B array of signed 16-bit numbers is held to the largest of these.
   pub tag_count_is : tag_count 40000 ≡ 32767
 

@@ -12,7 +12,7 @@ use Rattle.rates.specs.Rate.{rate_of}
 use Rattle.duplex_errors.specs.Errors.{agreeing, disagreeing}
 use Rattle.duplex_molecule.specs.Molecule.{is_call, molecule_call, call_at}
 use Rattle.duplex_call.specs.Annotated.{combined, estimated_uncalled, estimated}
-use Rattle.duplex_position.specs.Combination.{agreed, disagreed, masked, uncalled, called}
+use Rattle.duplex_position.specs.Combination.{agreed, disagreed, masked, unmasked, uncalled, called}
 use Rattle.duplex_arrays.specs.Positions.{estimates, combined_errors}
 use Rattle.positions.specs.Positions.{Positions}
 
@@ -22,7 +22,7 @@ either true x = refl
 either false x = refl
 
 pub positions : Positions
-unfolding rate_of of_int round div to_bits capped_quality agreed disagreed masked uncalled upper same_letter molecule_call call_at called combined combined_errors estimates tabulate estimated estimated_uncalled agreeing disagreeing
+unfolding rate_of of_int round div to_bits capped_quality agreed disagreed masked unmasked uncalled upper same_letter molecule_call call_at called combined combined_errors estimates tabulate estimated estimated_uncalled agreeing disagreeing
 positions = record {
   p1 = refl;
   p2 = refl;

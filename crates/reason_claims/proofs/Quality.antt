@@ -1,9 +1,9 @@
 -- The base of a position by the quality before it is held, which is low exactly where a reason by quality holds.
---     shows_n         a position shows N exactly where its answer is one of the seven reasons
+--     shows_n         at a ceiling of 3 or more a position shows N exactly where its answer is one of the seven reasons
 -- Assumes nothing.
 use mathlib.Core.Path.{◌≡◌, refl, sym, ap, ◌∙◌}
 use mathlib.Core.Bool.{Bool, true, false, cond, not, ◌&&◌, ◌||◌, true≢false, or-true, or-false}
-use Prim.Native.Nat.{ℕ, ◌+◌, min, max}
+use Prim.Native.Nat.{ℕ, ◌+◌, ◌≤◌, min, max}
 use native.Mathlib.Omega.{arith}
 use lib.Dec.{eqb, leb, ltb}
 use borrow.Author.Tests.{eqb-true, eqb-false, eq-eqb, ne_eqb, leb-true, leb-false, le-leb, lt-leb}
@@ -12,7 +12,7 @@ use Rattle.phred.specs.Phred.{capped_quality}
 use Rattle.methylation.specs.declared.ConversionPattern.TheVariants.{CToT, GToA}
 use Rattle.duplex_molecule.specs.Molecule.{call_as, molecule_call, ct_input, call_at}
 use Rattle.duplex_molecule.specs.declared.CtInput.TheVariants.{IsA, IsB}
-use Rattle.duplex_position.specs.Combination.{agreed, disagreed, masked, uncalled, called}
+use Rattle.duplex_position.specs.Combination.{agreed, disagreed, masked, unmasked, uncalled, called}
 use Rattle.duplex_position.specs.declared.Position.{Position}
 use Rattle.duplex_call.specs.Annotated.{by_call, combined}
 use Rattle.duplex_call.proofs.Calls.{c_test, g_test}
@@ -31,18 +31,18 @@ weighed d x y qa qb = cond d (difference qa qb) (cond x qb (cond y qa (qa + qb))
 abbrev raw_quality : Shown → Shown → ℕ
 raw_quality a b = weighed (disagree a b) (others_alone a b) (others_alone b a) a.qual b.qual
 
--- A quality is held to 2 exactly where it is at most 2.
-held_low : (x : ℕ) → eqb (capped_quality x) 2 ≡ leb x 2
+-- A quality is held to 2 exactly where it is at most 2: no ceiling is as low.
+held_low : (ceiling x : ℕ) → 3 ≤ ceiling → eqb (capped_quality ceiling x) 2 ≡ leb x 2
 unfolding capped_quality
-held_low x = go (leb x 2) refl
+held_low ceiling x least = go (leb x 2) refl
   where
-    go : (t : Bool) → leb x 2 ≡ t → eqb (max 2 (min x 93)) 2 ≡ t
+    go : (t : Bool) → leb x 2 ≡ t → eqb (max 2 (min x ceiling)) 2 ≡ t
     go true e =
         let low = leb-true x 2 e in
-        eq-eqb (max 2 (min x 93)) 2 (omega arith)
+        eq-eqb (max 2 (min x ceiling)) 2 (omega arith)
     go false e =
         let high = leb-false x 2 e in
-        ne_eqb (max 2 (min x 93)) 2 (omega arith)
+        ne_eqb (max 2 (min x ceiling)) 2 (omega (arith, least))
 
 -- Qualities are equal or differ by 1 or 2 exactly where their difference is at most 2.
 near : (p q : ℕ) → (eqb p q || (eqb (difference p q) 1 || eqb (difference p q) 2)) ≡ leb (difference p q) 2
@@ -150,9 +150,9 @@ module _ (a b : Shown) where
   reason_low = n_first (is_n a) (is_n b) (first_of quality_reasons a b) ∙ ap (λ (t : Bool). is_n a || (is_n b || t)) low
 
 -- A position of bases a and b is masked by this quality, and what it would show is no N of its own.
-record Masks (a b raw : ℕ) (position : Position) : Type 0 where
+record Masks (ceiling a b raw : ℕ) (position : Position) : Type 0 where
   shown : ℕ
-  is : position ≡ masked a b shown (capped_quality raw)
+  is : position ≡ masked a b shown (capped_quality ceiling raw)
   named : shown ≡ letter_n → (eqb a letter_n || eqb b letter_n) ≡ true
 
 masked_base : (a b shown qual : ℕ) → (shown ≡ letter_n → (eqb a letter_n || eqb b letter_n) ≡ true) → eqb (masked a b shown qual).base letter_n ≡ (eqb a letter_n || (eqb b letter_n || eqb qual 2))
@@ -162,22 +162,26 @@ masked_base a b shown qual named = go (eqb a letter_n) (eqb b letter_n) (eqb qua
     go :
         (x y z : Bool)
         → (shown ≡ letter_n → (x || y) ≡ true)
-        → eqb (cond {A = Position} (x || (y || z)) (record { base = letter_n; qual = 2; raw = shown }) (record { base = shown; qual = qual; raw = shown })).base letter_n ≡ (x || (y || z))
+        → eqb (cond {A = Position} (x || (y || z)) (record { base = letter_n; qual = 2 }) (record { base = shown; qual = qual })).base letter_n ≡ (x || (y || z))
     go true y z h = refl
     go false true z h = refl
     go false false true h = refl
     go false false false h = ne_eqb shown letter_n (λ e. true≢false (sym (h e)))
 
-shows_masked : (a b raw : ℕ) (position : Position) → Masks a b raw position → eqb position.base letter_n ≡ (eqb a letter_n || (eqb b letter_n || leb raw 2))
-shows_masked a b raw position m =
+shows_masked :
+    (ceiling a b raw : ℕ) (position : Position)
+    → 3 ≤ ceiling
+    → Masks ceiling a b raw position
+    → eqb position.base letter_n ≡ (eqb a letter_n || (eqb b letter_n || leb raw 2))
+shows_masked ceiling a b raw position least m =
     ap (λ (p : Position). eqb p.base letter_n) m.is
-    ∙ masked_base a b m.shown (capped_quality raw) m.named
-    ∙ ap (λ (t : Bool). eqb a letter_n || (eqb b letter_n || t)) (held_low raw)
+    ∙ masked_base a b m.shown (capped_quality ceiling raw) m.named
+    ∙ ap (λ (t : Bool). eqb a letter_n || (eqb b letter_n || t)) (held_low ceiling raw least)
 
 -- Without a call.
-plain : (a qa b qb : ℕ) → Masks a b (cond (not (eqb a b)) (difference qa qb) (qa + qb)) (uncalled a qa b qb)
-unfolding uncalled agreed disagreed
-plain a qa b qb = go (eqb a b) (ltb qa qb)
+plain : (ceiling a qa b qb : ℕ) → Masks ceiling a b (cond (not (eqb a b)) (difference qa qb) (qa + qb)) (uncalled ceiling a qa b qb)
+unfolding unmasked uncalled agreed disagreed
+plain ceiling a qa b qb = go (eqb a b) (ltb qa qb)
   where
     of_a : a ≡ letter_n → (eqb a letter_n || eqb b letter_n) ≡ true
     of_a e = rw (eq-eqb a letter_n e)
@@ -187,16 +191,20 @@ plain a qa b qb = go (eqb a b) (ltb qa qb)
 
     go :
         (t u : Bool)
-        → Masks a b (cond (not t) (difference qa qb) (qa + qb)) (cond t (masked a b a (capped_quality (qa + qb))) (masked a b (cond u b a) (capped_quality (difference qa qb))))
+        → Masks ceiling a b (cond (not t) (difference qa qb) (qa + qb))
+        (cond t (masked a b a (capped_quality ceiling (qa + qb))) (masked a b (cond u b a) (capped_quality ceiling (difference qa qb))))
     go true u = record { shown = a; is = refl; named = of_a }
     go false true = record { shown = b; is = refl; named = of_b }
     go false false = record { shown = a; is = refl; named = of_a }
 
 -- At a call.
-at_call : (a qa b qb confirmed : ℕ) (alone : Bool) (confirming : ℕ) → (confirmed ≡ letter_n → ⊥) → Masks a b (cond alone confirming (qa + qb)) (called a qa b qb confirmed alone confirming)
+at_call :
+    (ceiling a qa b qb confirmed : ℕ) (alone : Bool) (confirming : ℕ)
+    → (confirmed ≡ letter_n → ⊥)
+    → Masks ceiling a b (cond alone confirming (qa + qb)) (called ceiling a qa b qb confirmed alone confirming)
 unfolding called agreed
-at_call a qa b qb confirmed true confirming h = record { shown = confirmed; is = refl; named = λ e. absurd (h e) }
-at_call a qa b qb confirmed false confirming h = record { shown = confirmed; is = refl; named = λ e. absurd (h e) }
+at_call ceiling a qa b qb confirmed true confirming h = record { shown = confirmed; is = refl; named = λ e. absurd (h e) }
+at_call ceiling a qa b qb confirmed false confirming h = record { shown = confirmed; is = refl; named = λ e. absurd (h e) }
 
 c_is_no_n : letter_c ≡ letter_n → ⊥
 c_is_no_n e = omega arith
@@ -207,37 +215,42 @@ g_is_no_n e = omega arith
 abbrev here : Option ConversionPattern → ℕ → ℕ → ℕ → Shown
 here annotation base qual mark = record { annotation = annotation; base = base; qual = qual; mark = mark }
 
-masks : (p q : Option ConversionPattern) (x qx mx y qy my : ℕ) → Masks x y (raw_quality (here p x qx mx) (here q y qy my)) (combined (ct_input p q) x qx mx y qy my)
+masks :
+    (ceiling : ℕ) (p q : Option ConversionPattern) (x qx mx y qy my : ℕ)
+    → Masks ceiling x y (raw_quality (here p x qx mx) (here q y qy my)) (combined ceiling (ct_input p q) x qx mx y qy my)
 unfolding combined ct_input call_at molecule_call called_by
-masks None None x qx mx y qy my = plain x qx y qy
-masks None (Some q) x qx mx y qy my = plain x qx y qy
-masks (Some p) None x qx mx y qy my = plain x qx y qy
-masks (Some CToT) (Some CToT) x qx mx y qy my = plain x qx y qy
-masks (Some CToT) (Some GToA) x qx mx y qy my = go (c_test x y) (g_test x y) (one_test x y)
+masks ceiling None None x qx mx y qy my = plain ceiling x qx y qy
+masks ceiling None (Some q) x qx mx y qy my = plain ceiling x qx y qy
+masks ceiling (Some p) None x qx mx y qy my = plain ceiling x qx y qy
+masks ceiling (Some CToT) (Some CToT) x qx mx y qy my = plain ceiling x qx y qy
+masks ceiling (Some CToT) (Some GToA) x qx mx y qy my = go (c_test x y) (g_test x y) (one_test x y)
   where
     go :
         (c g : Bool)
         → (c ≡ true → g ≡ false)
-        → Masks x y (weighed (not (c || g) && not (eqb x y)) (c && (same_letter x letter_t && eqb mx 0)) (g && (same_letter y letter_a && eqb my 0)) qx qy)
-        (by_call IsA x qx mx y qy my (cond c (Some (call_as CToT x letter_c)) (cond g (Some (call_as GToA y letter_g)) None)))
+        → Masks ceiling x y (weighed (not (c || g) && not (eqb x y)) (c && (same_letter x letter_t && eqb mx 0)) (g && (same_letter y letter_a && eqb my 0)) qx qy)
+        (by_call ceiling IsA x qx mx y qy my (cond c (Some (call_as CToT x letter_c)) (cond g (Some (call_as GToA y letter_g)) None)))
     go true true apart = absurd (true≢false (apart refl))
-    go true false apart = at_call x qx y qy letter_c (same_letter x letter_t && eqb mx 0) qy c_is_no_n
-    go false true apart = at_call x qx y qy letter_g (same_letter y letter_a && eqb my 0) qx g_is_no_n
-    go false false apart = plain x qx y qy
-masks (Some GToA) (Some CToT) x qx mx y qy my = go (c_test y x) (g_test y x) (one_test y x)
+    go true false apart = at_call ceiling x qx y qy letter_c (same_letter x letter_t && eqb mx 0) qy c_is_no_n
+    go false true apart = at_call ceiling x qx y qy letter_g (same_letter y letter_a && eqb my 0) qx g_is_no_n
+    go false false apart = plain ceiling x qx y qy
+masks ceiling (Some GToA) (Some CToT) x qx mx y qy my = go (c_test y x) (g_test y x) (one_test y x)
   where
     go :
         (c g : Bool)
         → (c ≡ true → g ≡ false)
-        → Masks x y (weighed (not (g || c) && not (eqb x y)) (g && (same_letter x letter_a && eqb mx 0)) (c && (same_letter y letter_t && eqb my 0)) qx qy)
-        (by_call IsB x qx mx y qy my (cond c (Some (call_as CToT y letter_c)) (cond g (Some (call_as GToA x letter_g)) None)))
+        → Masks ceiling x y (weighed (not (g || c) && not (eqb x y)) (g && (same_letter x letter_a && eqb mx 0)) (c && (same_letter y letter_t && eqb my 0)) qx qy)
+        (by_call ceiling IsB x qx mx y qy my (cond c (Some (call_as CToT y letter_c)) (cond g (Some (call_as GToA x letter_g)) None)))
     go true true apart = absurd (true≢false (apart refl))
-    go true false apart = at_call x qx y qy letter_c (same_letter y letter_t && eqb my 0) qx c_is_no_n
-    go false true apart = at_call x qx y qy letter_g (same_letter x letter_a && eqb mx 0) qy g_is_no_n
-    go false false apart = plain x qx y qy
-masks (Some GToA) (Some GToA) x qx mx y qy my = plain x qx y qy
+    go true false apart = at_call ceiling x qx y qy letter_c (same_letter y letter_t && eqb my 0) qx c_is_no_n
+    go false true apart = at_call ceiling x qx y qy letter_g (same_letter x letter_a && eqb mx 0) qy g_is_no_n
+    go false false apart = plain ceiling x qx y qy
+masks ceiling (Some GToA) (Some GToA) x qx mx y qy my = plain ceiling x qx y qy
 
-pub shows_n : (a b : Shown) → eqb (combined (ct_input a.annotation b.annotation) a.base a.qual a.mark b.base b.qual b.mark).base letter_n ≡ is_reason (reason_at a b)
-shows_n a b =
-    shows_masked a.base b.base (raw_quality a b) _ (masks a.annotation b.annotation a.base a.qual a.mark b.base b.qual b.mark)
+pub shows_n :
+    (ceiling : ℕ) (a b : Shown)
+    → 3 ≤ ceiling
+    → eqb (combined ceiling (ct_input a.annotation b.annotation) a.base a.qual a.mark b.base b.qual b.mark).base letter_n ≡ is_reason (reason_at a b)
+shows_n ceiling a b least =
+    shows_masked ceiling a.base b.base (raw_quality a b) _ least (masks ceiling a.annotation b.annotation a.base a.qual a.mark b.base b.qual b.mark)
     ∙ sym (reason_low a b)

@@ -8,7 +8,7 @@ use Rattle.std.proofs.Common.{Option, Some, None, Result, Ok}
 use mathlib.Core.Logic.{◌↔◌}
 use mathlib.Core.Bool.{Bool, true, false, cond}
 use mathlib.Core.List.{List}
-use Prim.Native.Nat.{ℕ, ◌<◌}
+use Prim.Native.Nat.{ℕ, ◌≤◌, ◌<◌}
 use lib.Dec.{eqb}
 use lib.ListN.{get_or}
 use borrow.Author.Tests.{eqb-true, eqb-false, eq-eqb, ne_eqb, lt-ltb, le-ltb}
@@ -18,6 +18,7 @@ use Rattle.refusals.specs.declared.Refusal.{Refusal}
 use Rattle.refusals.specs.Refusal.{refused}
 use Rattle.refusals.proofs.Claims.{none_lost}
 use Rattle.refusals.proofs.Outcome.{passed_by}
+use Rattle.settings.specs.declared.GivenSettings.{GivenSettings}
 use Rattle.dna.specs.Dna.{letter_n, upper, same_letter}
 use Rattle.duplex_molecule.specs.Molecule.{ct_input}
 use Rattle.duplex_arrays.specs.Positions.{position_of, combined_bases}
@@ -34,7 +35,7 @@ use Rattle.reason_claims.specs.Reasons.{Made, tells_reason, NExactlyWhenAReason,
 use Rattle.reason_claims.proofs.Conditions.{only_reasons}
 use Rattle.reason_claims.proofs.Quality.{shows_n}
 
-module _ (a b : Strand) (before now : RecordArrays) {kind : Option DuplexConsensus} (made : Made a b before now kind) where
+module _ (lab : GivenSettings) (a b : Strand) (before now : RecordArrays) {kind : Option DuplexConsensus} (made : Made lab a b before now kind) where
   abbrev row : Option Refusal
   row = duplex_refused a b made.listed made.count made.leaving before
 
@@ -68,30 +69,30 @@ own_ba false false k x y e = absurd cc
 
 pub elsewhere : Elsewhere
 elsewhere = record {
-  past_both = λ a b before now n i made h. answered a b before now made i ∙ rw (le-ltb i n h);
-  past_ab = λ a b before now n i made h. answered a b before now made i ∙ rw (le-ltb i n h);
-  past_ba = λ a b before now n i made h. answered a b before now made i ∙ rw (le-ltb i n h);
-  none = λ a b before now i made. answered a b before now made i;
-  in_ab = λ a b before now n i made h. answered a b before now made i ∙ rw (lt-ltb i n h);
-  in_ba = λ a b before now n i made h. answered a b before now made i ∙ rw (lt-ltb i n h);
-  own_ab = λ a b before now n made. own_ab (covered (record_length a b) a) (covered (record_length a b) b) _ _ _ (not_refused a b before now made).1;
-  own_ba = λ a b before now n made. own_ba (covered (record_length a b) a) (covered (record_length a b) b) _ _ _ (not_refused a b before now made).1;
+  past_both = λ lab a b before now n i made h. answered lab a b before now made i ∙ rw (le-ltb i n h);
+  past_ab = λ lab a b before now n i made h. answered lab a b before now made i ∙ rw (le-ltb i n h);
+  past_ba = λ lab a b before now n i made h. answered lab a b before now made i ∙ rw (le-ltb i n h);
+  none = λ lab a b before now i made. answered lab a b before now made i;
+  in_ab = λ lab a b before now n i made h. answered lab a b before now made i ∙ rw (lt-ltb i n h);
+  in_ba = λ lab a b before now n i made h. answered lab a b before now made i ∙ rw (lt-ltb i n h);
+  own_ab = λ lab a b before now n made. own_ab (covered (record_length a b) a) (covered (record_length a b) b) _ _ _ (not_refused lab a b before now made).1;
+  own_ba = λ lab a b before now n made. own_ba (covered (record_length a b) a) (covered (record_length a b) b) _ _ _ (not_refused lab a b before now made).1;
 }
 
-module _ (a b : Strand) (before now : RecordArrays) (n i : ℕ) (made : Made a b before now (Some (Both n))) (h : i < n) where
+module _ (lab : GivenSettings) (a b : Strand) (before now : RecordArrays) (n i : ℕ) (least : 3 ≤ lab.ceiling) (made : Made lab a b before now (Some (Both n))) (h : i < n) where
   -- The base that was written.
-  base_is_lem : get_or now.bases i 0 ≡ (position_of (ct_input a.annotation b.annotation) a.arrays b.arrays i).base
+  base_is_lem : get_or now.bases i 0 ≡ (position_of lab.ceiling (ct_input a.annotation b.annotation) a.arrays b.arrays i).base
   unfolding combined_bases
   base_is_lem =
-      let (passes, kind) = not_refused a b before now made in
-      let left : now.bases ≡ put (record_arrays a b made.listed made.counted (kind_of a b)).bases before.bases = rw passes at made.call.outputs.bases in
+      let (passes, kind) = not_refused lab a b before now made in
+      let left : now.bases ≡ put (record_arrays lab a b made.listed made.counted (kind_of a b)).bases before.bases = rw passes at made.call.outputs.bases in
       ap (λ (xs : List ℕ). get_or xs i 0) (rw kind at left) ∙ table_front 0 n _ before.bases i h
 
   answer_is : reason_of a b i ≡ Ok (reason_at (shown_at a i) (shown_at b i))
-  answer_is = answered a b before now made i ∙ rw (lt-ltb i n h)
+  answer_is = answered lab a b before now made i ∙ rw (lt-ltb i n h)
 
   same : eqb (get_or now.bases i 0) letter_n ≡ tells_reason (reason_of a b i)
-  same = ap (λ (x : ℕ). eqb x letter_n) base_is_lem ∙ shows_n (shown_at a i) (shown_at b i) ∙ sym (ap tells_reason answer_is)
+  same = ap (λ (x : ℕ). eqb x letter_n) base_is_lem ∙ shows_n lab.ceiling (shown_at a i) (shown_at b i) least ∙ sym (ap tells_reason answer_is)
 
   exactly : (get_or now.bases i 0 ≡ letter_n ↔ tells_reason (reason_of a b i) ≡ true) × ((get_or now.bases i 0 ≡ letter_n → ⊥) ↔ reason_of a b i ≡ Ok Called)
   exactly =

@@ -1,7 +1,9 @@
--- Request 101 of document 02: what the answer at a position says of the record and of the strands. Proved in proofs/.
+-- Request 101 of document 02: what the answer at a position says of the record and of the strands. It takes no ceiling of qualities, and
+-- what it says is true of the record at every ceiling. Proved in proofs/.
 use Rattle.std.specs.Prelude.{Option, None, Some, Result, Ok, Err, ◌≡◌, ◌↔◌, Bool, true, false, not, List, ◌∷◌, ◌++◌, ℕ, ◌≤◌, ◌<◌, length, get_or}
 use Rattle.lists.specs.Every.{every}
 use Rattle.refusals.specs.declared.Refusal.{Refusal}
+use Rattle.settings.specs.declared.GivenSettings.{GivenSettings}
 use Rattle.dna.specs.Dna.{letter_a, letter_c, letter_g, letter_n, letter_t, lower_n}
 use Rattle.methylation.specs.declared.ConversionPattern.{ConversionPattern}
 use Rattle.methylation.specs.declared.ConversionPattern.TheVariants.{CToT, GToA}
@@ -17,39 +19,42 @@ use Rattle.duplex_reason.specs.declared.NoCallReason.{NoCallReason}
 use Rattle.duplex_reason.specs.declared.NoCallReason.TheVariants.{Outside, SingleStrand, Called, ANoCall, BNoCall, BothNoCall, EqualQualities, CloseQualities, LowSum, LowConfirming}
 use Rattle.duplex_reason.specs.declared.Shown.{Shown}
 
--- A call of the combination, with a list of reads or without, that was not refused and made a record of this kind, or none.
-pub record Made (a b : Strand) (before now : RecordArrays) (kind : Option DuplexConsensus) : Type 0 where
+-- A call of the combination by a lab's settings, with a list of reads or without, that was not refused and made a record of this kind, or
+-- none.
+pub record Made (lab : GivenSettings) (a b : Strand) (before now : RecordArrays) (kind : Option DuplexConsensus) : Type 0 where
   pub listed : Bool
   pub count : ℕ
   pub leaving : Bool
   pub counted : ℕ → ℕ
-  pub call : DuplexAs a b listed count leaving counted before now (Ok kind)
+  pub call : DuplexAs lab a b listed count leaving counted before now (Ok kind)
 
 -- An answer is one of the seven reasons; a refusal is none.
 abbrev pub tells_reason : Result NoCallReason Refusal → Bool
 tells_reason (Err refusal) = false
 tells_reason (Ok reason) = is_reason reason
 
--- At every position of a record of two strands: the base that the combination wrote is N exactly when the answer is one of the seven
--- reasons, and another base exactly when the answer is "called".
+-- At every position of a record of two strands, at every ceiling from 3 on: the base that the combination wrote is N exactly when the
+-- answer is one of the seven reasons, and another base exactly when the answer is "called". (No call takes a ceiling below 3; at 2 every
+-- base would be N.)
 abbrev pub NExactlyWhenAReason : Type 0
 NExactlyWhenAReason =
-    (a b : Strand) (before now : RecordArrays) (n i : ℕ)
-    → Made a b before now (Some (Both n))
+    (lab : GivenSettings) (a b : Strand) (before now : RecordArrays) (n i : ℕ)
+    → 3 ≤ lab.ceiling
+    → Made lab a b before now (Some (Both n))
     → i < n
     → (get_or now.bases i 0 ≡ letter_n ↔ tells_reason (reason_of a b i) ≡ true) × ((get_or now.bases i 0 ≡ letter_n → ⊥) ↔ reason_of a b i ≡ Ok Called)
 
 -- Every position past a record is outside, and every position where there is none; within a record of one strand each is "single
 -- strand". Such a record is as long as its strand, whose own length it has, however long the other is.
 pub record Elsewhere : Type 0 where
-  pub past_both : (a b : Strand) (before now : RecordArrays) (n i : ℕ) → Made a b before now (Some (Both n)) → n ≤ i → reason_of a b i ≡ Ok Outside
-  pub past_ab : (a b : Strand) (before now : RecordArrays) (n i : ℕ) → Made a b before now (Some (Ab n)) → n ≤ i → reason_of a b i ≡ Ok Outside
-  pub past_ba : (a b : Strand) (before now : RecordArrays) (n i : ℕ) → Made a b before now (Some (Ba n)) → n ≤ i → reason_of a b i ≡ Ok Outside
-  pub none : (a b : Strand) (before now : RecordArrays) (i : ℕ) → Made a b before now None → reason_of a b i ≡ Ok Outside
-  pub in_ab : (a b : Strand) (before now : RecordArrays) (n i : ℕ) → Made a b before now (Some (Ab n)) → i < n → reason_of a b i ≡ Ok SingleStrand
-  pub in_ba : (a b : Strand) (before now : RecordArrays) (n i : ℕ) → Made a b before now (Some (Ba n)) → i < n → reason_of a b i ≡ Ok SingleStrand
-  pub own_ab : (a b : Strand) (before now : RecordArrays) (n : ℕ) → Made a b before now (Some (Ab n)) → n ≡ length a.arrays.bases
-  pub own_ba : (a b : Strand) (before now : RecordArrays) (n : ℕ) → Made a b before now (Some (Ba n)) → n ≡ length b.arrays.bases
+  pub past_both : (lab : GivenSettings) (a b : Strand) (before now : RecordArrays) (n i : ℕ) → Made lab a b before now (Some (Both n)) → n ≤ i → reason_of a b i ≡ Ok Outside
+  pub past_ab : (lab : GivenSettings) (a b : Strand) (before now : RecordArrays) (n i : ℕ) → Made lab a b before now (Some (Ab n)) → n ≤ i → reason_of a b i ≡ Ok Outside
+  pub past_ba : (lab : GivenSettings) (a b : Strand) (before now : RecordArrays) (n i : ℕ) → Made lab a b before now (Some (Ba n)) → n ≤ i → reason_of a b i ≡ Ok Outside
+  pub none : (lab : GivenSettings) (a b : Strand) (before now : RecordArrays) (i : ℕ) → Made lab a b before now None → reason_of a b i ≡ Ok Outside
+  pub in_ab : (lab : GivenSettings) (a b : Strand) (before now : RecordArrays) (n i : ℕ) → Made lab a b before now (Some (Ab n)) → i < n → reason_of a b i ≡ Ok SingleStrand
+  pub in_ba : (lab : GivenSettings) (a b : Strand) (before now : RecordArrays) (n i : ℕ) → Made lab a b before now (Some (Ba n)) → i < n → reason_of a b i ≡ Ok SingleStrand
+  pub own_ab : (lab : GivenSettings) (a b : Strand) (before now : RecordArrays) (n : ℕ) → Made lab a b before now (Some (Ab n)) → n ≡ length a.arrays.bases
+  pub own_ba : (lab : GivenSettings) (a b : Strand) (before now : RecordArrays) (n : ℕ) → Made lab a b before now (Some (Ba n)) → n ≡ length b.arrays.bases
 
 -- The answer is the first of the seven conditions, in the paper's order, that holds; and "called" exactly where none does.
 pub record FirstThatHolds : Type 0 where
