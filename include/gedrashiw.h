@@ -10,8 +10,9 @@
  *     One position      what two bases, a quality, a count, a reference base say
  *     As bytes          combination, reasons, metrics and methylation tags over arrays of bytes, low byte first
  *
- * An array is a pointer and the number of its elements, in this order. The entries keep no pointer, allocate nothing and hold no
- * state, so that threads may call them side by side. None takes more than GEDRASHIW_STACK_BYTES of stack: so it was measured, not proved.
+ * An array is a pointer and the number of its elements, in this order. What is told of a molecule in a few bytes, and what a lab chooses,
+ * is a struct that is passed by value. The entries keep no pointer, allocate nothing and hold no state, so that threads may call them side
+ * by side. None takes more than GEDRASHIW_STACK_BYTES of stack: so it was measured, not proved.
  *
  * What the caller must see to, since no contract can: each pointer is valid for its number of elements, for reading, and outputs for
  * writing; it is aligned as its type asks; and no output overlaps an input or another output. With the number 0 a pointer is not
@@ -46,7 +47,8 @@ enum gedrashiw_refusal {
     GEDRASHIW_PART_OUTSIDE = 10,       /* the part of a read leaves its bytes */
     GEDRASHIW_BELOW_LENGTH = 11,       /* padding to less than the present length */
     GEDRASHIW_OUTPUT_TOO_SHORT = 12,   /* an output has fewer places than are written */
-    GEDRASHIW_BROKEN = 13              /* a number that stands for no choice; of bytes: a count that does not fit, or a broken run */
+    GEDRASHIW_BROKEN = 13,             /* a number that stands for no choice; of bytes: a count that does not fit, or a broken run */
+    GEDRASHIW_CEILING_OUTSIDE = 14     /* a quality ceiling outside 3 to 93 */
 };
 
 /* ==== Choices. Whether something is so is a number too: 0 no, any other yes. ==== */
@@ -89,6 +91,18 @@ enum gedrashiw_kind {
     GEDRASHIW_A_ALONE = 1,
     GEDRASHIW_B_ALONE = 2,   /* stored as the first strand: its evidence goes to the outputs of A */
     GEDRASHIW_BOTH_STRANDS = 3
+};
+
+/* ==== What a lab chooses. Every entry that combines strands takes it, and tests it whatever record there would be. ==== */
+
+#define GEDRASHIW_MIN_CEILING 3
+#define GEDRASHIW_MAX_CEILING 93
+
+/* ceiling   the highest quality of a record of two strands, from 3 to 93; another is refused as 14. 93 is that of fgumi-consensus and of
+ *           duplexline; some variant callers take nothing above 60. Only qualities depend on it: at a lower ceiling each is the smaller of
+ *           that ceiling and what it is at a higher one. A record of one strand keeps its qualities, whatever the ceiling. */
+struct gedrashiw_settings {
+    uint8_t ceiling;
 };
 
 /* ==== Answers that several entries have. `refused` is 0, or the refusal's number. ==== */
@@ -272,37 +286,47 @@ struct gedrashiw_duplex_record {
     size_t positions;
 };
 
-/* The duplex record of two strands, of one or of none.
+/* What is told of a strand that may be missing.
  *
- * a_present   no: the strand is not there, and nothing more of it is looked at, nor its annotation or the lengths of its arrays
- * listed      no: there is no list of source reads, reads and bytes are not looked at, and the errors are estimated;
- *             yes: the errors are counted over the list; without a read they are 0
+ * present      no: the strand is not there, and nothing more of it is looked at, nor its annotation or the lengths of its arrays
+ * annotation   of enum gedrashiw_annotation */
+struct gedrashiw_told_strand {
+    uint8_t present, annotation;
+};
+
+/* What is told of a molecule.
+ *
+ * listed   no: there is no list of source reads, reads and bytes are not looked at, and the errors are estimated;
+ *          yes: the errors are counted over the list; without a read they are 0 */
+struct gedrashiw_told_molecule {
+    struct gedrashiw_told_strand a, b;
+    uint8_t listed;
+    struct gedrashiw_settings settings;
+};
+
+/* The duplex record of two strands, of one or of none.
  *
  * The length of the record is the shorter of the strands that are there, and a strand counts only with a depth above 0 within it. One
  * strand that counts alone is copied whole, with its evidence cleared where it is not informative. What is written, of as many
  * positions as the record has: bases, qualities, errors; to the outputs a_ the evidence of A where A is in the record and annotated, or
  * of B where B alone is the record; to the outputs b_ the evidence of B where both are the record and B is annotated. The other outputs
- * of evidence are not looked at. 13, then 7, 8, 9, 10, 12. */
+ * of evidence are not looked at. 13, then 14, 7, 8, 9, 10, 12. */
 struct gedrashiw_duplex_record
-gedrashiw_duplex_consensus_typed(uint8_t a_present,
+gedrashiw_duplex_consensus_typed(struct gedrashiw_told_molecule molecule,
                                  const uint8_t *a_bases, size_t a_bases_len,
                                  const uint8_t *a_quals, size_t a_quals_len,
                                  const uint16_t *a_depths, size_t a_depths_len,
                                  const uint16_t *a_errors, size_t a_errors_len,
-                                 uint8_t a_annotation,
                                  const uint8_t *a_marks, size_t a_marks_len,
                                  const uint32_t *a_unconverted, size_t a_unconverted_len,
                                  const uint32_t *a_converted, size_t a_converted_len,
-                                 uint8_t b_present,
                                  const uint8_t *b_bases, size_t b_bases_len,
                                  const uint8_t *b_quals, size_t b_quals_len,
                                  const uint16_t *b_depths, size_t b_depths_len,
                                  const uint16_t *b_errors, size_t b_errors_len,
-                                 uint8_t b_annotation,
                                  const uint8_t *b_marks, size_t b_marks_len,
                                  const uint32_t *b_unconverted, size_t b_unconverted_len,
                                  const uint32_t *b_converted, size_t b_converted_len,
-                                 uint8_t listed,
                                  const struct gedrashiw_source_read *reads, size_t reads_len,
                                  const uint8_t *bytes, size_t bytes_len,
                                  uint8_t *bases_out, size_t bases_out_len,
@@ -316,9 +340,10 @@ gedrashiw_duplex_consensus_typed(uint8_t a_present,
                                  uint32_t *b_converted_out, size_t b_converted_out_len);
 
 /* Its parts, for a caller that has its own way with coverage and reads. The combination of two strands without annotation over their
- * shorter length; where reads are listed every error is 0, and counting is left to the caller. 7, 8, 12. */
+ * shorter length; where reads are listed every error is 0, and counting is left to the caller. 14, then 7, 8, 12. */
 struct gedrashiw_count
-gedrashiw_combine_strands(const uint8_t *a_bases, size_t a_bases_len,
+gedrashiw_combine_strands(uint8_t listed, struct gedrashiw_settings settings,
+                          const uint8_t *a_bases, size_t a_bases_len,
                           const uint8_t *a_quals, size_t a_quals_len,
                           const uint16_t *a_depths, size_t a_depths_len,
                           const uint16_t *a_errors, size_t a_errors_len,
@@ -326,18 +351,25 @@ gedrashiw_combine_strands(const uint8_t *a_bases, size_t a_bases_len,
                           const uint8_t *b_quals, size_t b_quals_len,
                           const uint16_t *b_depths, size_t b_depths_len,
                           const uint16_t *b_errors, size_t b_errors_len,
-                          uint8_t listed,
                           uint8_t *bases_out, size_t bases_out_len,
                           uint8_t *quals_out, size_t quals_out_len,
                           uint16_t *errors_out, size_t errors_out_len);
 
-/* The same of strands that may be annotated. 13, then 7, 8, 12. */
+/* What is told of two strands that are there: the annotation of each, of enum gedrashiw_annotation; whether reads are listed, as for
+ * gedrashiw_combine_strands. */
+struct gedrashiw_told_strands {
+    uint8_t a_annotation, b_annotation;
+    uint8_t listed;
+    struct gedrashiw_settings settings;
+};
+
+/* The same of strands that may be annotated. 13, then 14, 7, 8, 12. */
 struct gedrashiw_count
-gedrashiw_combine_strands_annotated(const uint8_t *a_bases, size_t a_bases_len,
+gedrashiw_combine_strands_annotated(struct gedrashiw_told_strands strands,
+                                    const uint8_t *a_bases, size_t a_bases_len,
                                     const uint8_t *a_quals, size_t a_quals_len,
                                     const uint16_t *a_depths, size_t a_depths_len,
                                     const uint16_t *a_errors, size_t a_errors_len,
-                                    uint8_t a_annotation,
                                     const uint8_t *a_marks, size_t a_marks_len,
                                     const uint32_t *a_unconverted, size_t a_unconverted_len,
                                     const uint32_t *a_converted, size_t a_converted_len,
@@ -345,11 +377,9 @@ gedrashiw_combine_strands_annotated(const uint8_t *a_bases, size_t a_bases_len,
                                     const uint8_t *b_quals, size_t b_quals_len,
                                     const uint16_t *b_depths, size_t b_depths_len,
                                     const uint16_t *b_errors, size_t b_errors_len,
-                                    uint8_t b_annotation,
                                     const uint8_t *b_marks, size_t b_marks_len,
                                     const uint32_t *b_unconverted, size_t b_unconverted_len,
                                     const uint32_t *b_converted, size_t b_converted_len,
-                                    uint8_t listed,
                                     uint8_t *bases_out, size_t bases_out_len,
                                     uint8_t *quals_out, size_t quals_out_len,
                                     uint16_t *errors_out, size_t errors_out_len,
@@ -429,7 +459,8 @@ struct gedrashiw_reason {
 };
 
 /* Why the record that gedrashiw_duplex_consensus_typed makes of the same strands shows N at a position: any number, counted from 0.
- * Source reads change no base, so none are taken. Strands are tested before all else, also where there is no record. 13, then 7, 8. */
+ * Source reads change no base, and a ceiling makes none N, so neither is taken. Strands are tested before all else, also where there is
+ * no record. 13, then 7, 8. */
 struct gedrashiw_reason
 gedrashiw_no_call_reason_typed(uint8_t a_present,
                                const uint8_t *a_bases, size_t a_bases_len,
@@ -591,8 +622,8 @@ struct gedrashiw_call {
 /* The methylation call at a position, of the base of the C-to-T strand and that of the G-to-A strand. */
 struct gedrashiw_call gedrashiw_molecule_call(uint8_t ct_base, uint8_t ga_base);
 
-/* A sum of qualities held to 2..93. */
-uint8_t gedrashiw_cap_quality(uint16_t score);
+/* A sum of qualities held to 2 and a ceiling. 14. */
+struct gedrashiw_number gedrashiw_cap_quality(uint16_t score, uint8_t ceiling);
 
 /* A depth, or a strand's errors, held to 32,767; and a record's errors, which an estimate may put below zero, held to 0..32,767. */
 uint32_t gedrashiw_clamp_per_base_to_fgbio_short(uint16_t depth);
@@ -658,15 +689,31 @@ uint8_t gedrashiw_metrics(const uint8_t *a_depths, size_t a_depths_len,
 #define GEDRASHIW_NUMBER_BYTES 2
 #define GEDRASHIW_EVIDENCE_BYTES 9
 
+/* What is told of a strand whose arrays are bytes.
+ *
+ * present     0: the strand is not there, and nothing more of it is looked at, nor the lengths of its arrays;
+ *             any other number: it is
+ * annotated   0: it has no annotation, and pattern and the strand's evidence are not looked at, nor its length;
+ *             any other number: it has one
+ * pattern     the annotation's conversion pattern, as an encoded molecule has it. 0: C to T; 1: G to A; above 1: refused as 13 */
+struct gedrashiw_told_encoded_strand {
+    uint8_t present, annotated, pattern;
+};
+
+/* What is told of a molecule whose arrays are bytes.
+ *
+ * listed   0: there is no list of source reads, reads is not looked at, nor reads_len, and the errors are estimated;
+ *          any other number: there is one, and the errors are counted of it; without a read they are 0 */
+struct gedrashiw_told_encoded_molecule {
+    struct gedrashiw_told_encoded_strand a, b;
+    uint8_t listed;
+    struct gedrashiw_settings settings;
+};
+
 /* The duplex record of two strands, of one or of none, as bytes.
  *
  * Of strand A, and of strand B likewise:
  *
- * a_present     0: the strand is not there, and nothing more of it is looked at, nor the lengths of its arrays;
- *               any other number: it is
- * a_annotated   0: it has no annotation, and a_pattern and a_evidence are not looked at, nor a_evidence_len;
- *               any other number: it has one
- * a_pattern     the annotation's conversion pattern, as an encoded molecule has it. 0: C to T; 1: G to A; above 1: refused as 13
  * a_bases       a byte each
  * a_quals       a byte each
  * a_depths      16-bit numbers, two bytes each
@@ -679,8 +726,6 @@ uint8_t gedrashiw_metrics(const uint8_t *a_depths, size_t a_depths_len,
  * Lengths are in bytes: ten positions are an a_bases_len and an a_quals_len of 10, an a_depths_len and an a_errors_len of 20, and
  * an a_evidence_len of 90. The arrays of one strand have the same number of positions, at most 1,024; the two strands may differ.
  *
- * listed   0: there is no list of source reads, reads is not looked at, nor reads_len, and the errors are estimated;
- *          any other number: there is one, and the errors are counted of it; without a read they are 0
  * reads    the list, at most 1,024 reads: one after another, with nothing between, before or behind them,
  *              at 0  the byte 0x30
  *              at 1  n, a 16-bit number: the bytes that follow it, at least 2
@@ -700,22 +745,20 @@ uint8_t gedrashiw_metrics(const uint8_t *a_depths, size_t a_depths_len,
  * Bytes of an output past the written ones are left as they were; with no record nothing is written. A record has at most 1,024
  * positions, so 1,024, 1,024, 2,048, 9,216 and 9,216 bytes are always enough.
  *
- * Answers with refused 0, or 13, 7, 8, 9 or 12.
+ * Answers with refused 0, or 13, 14, 7, 8, 9 or 12.
  */
 struct gedrashiw_duplex_record
-gedrashiw_duplex_consensus(uint8_t a_present, uint8_t a_annotated, uint8_t a_pattern,
+gedrashiw_duplex_consensus(struct gedrashiw_told_encoded_molecule molecule,
                            const uint8_t *a_bases, size_t a_bases_len,
                            const uint8_t *a_quals, size_t a_quals_len,
                            const uint8_t *a_depths, size_t a_depths_len,
                            const uint8_t *a_errors, size_t a_errors_len,
                            const uint8_t *a_evidence, size_t a_evidence_len,
-                           uint8_t b_present, uint8_t b_annotated, uint8_t b_pattern,
                            const uint8_t *b_bases, size_t b_bases_len,
                            const uint8_t *b_quals, size_t b_quals_len,
                            const uint8_t *b_depths, size_t b_depths_len,
                            const uint8_t *b_errors, size_t b_errors_len,
                            const uint8_t *b_evidence, size_t b_evidence_len,
-                           uint8_t listed,
                            const uint8_t *reads, size_t reads_len,
                            uint8_t *bases_out, size_t bases_out_len,
                            uint8_t *quals_out, size_t quals_out_len,
@@ -723,8 +766,9 @@ gedrashiw_duplex_consensus(uint8_t a_present, uint8_t a_annotated, uint8_t a_pat
                            uint8_t *a_evidence_out, size_t a_evidence_out_len,
                            uint8_t *b_evidence_out, size_t b_evidence_out_len);
 
-/* Why the record that gedrashiw_duplex_consensus makes of the same strands, given in the same way, shows N at a position: any number,
- * counted from 0. Source reads change no base, so none are taken.
+/* Why the record that gedrashiw_duplex_consensus makes of the same strands, with the same arrays, shows N at a position: any number,
+ * counted from 0. Of each strand the first three numbers are those of struct gedrashiw_told_encoded_strand. Source reads change no base,
+ * and a ceiling makes none N, so neither is taken.
  *
  * Answers with refused 0 and one of enum gedrashiw_no_call_reason, or with refused 13, 7 or 8 and reason 0.
  */

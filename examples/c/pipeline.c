@@ -155,11 +155,12 @@ static int annotate(const char *name, struct strand *s, const struct molecule *m
 
 static int combine(const struct strand *a, const struct strand *b, const struct molecule *m, struct record *r)
 {
+    struct gedrashiw_told_molecule molecule = {{1, a->pattern}, {1, b->pattern}, 1, {GEDRASHIW_MAX_CEILING}};
     struct gedrashiw_duplex_record d = gedrashiw_duplex_consensus_typed(
-        1, (const uint8_t *)a->bases, POSITIONS, a->quals, POSITIONS, a->depths, POSITIONS, a->errors, POSITIONS, a->pattern,
-        a->evidence.marks, POSITIONS, a->evidence.unconverted, POSITIONS, a->evidence.converted, POSITIONS, 1, (const uint8_t *)b->bases,
-        POSITIONS, b->quals, POSITIONS, b->depths, POSITIONS, b->errors, POSITIONS, b->pattern, b->evidence.marks, POSITIONS,
-        b->evidence.unconverted, POSITIONS, b->evidence.converted, POSITIONS, 1, m->source, m->source_count[0] + m->source_count[1],
+        molecule, (const uint8_t *)a->bases, POSITIONS, a->quals, POSITIONS, a->depths, POSITIONS, a->errors, POSITIONS,
+        a->evidence.marks, POSITIONS, a->evidence.unconverted, POSITIONS, a->evidence.converted, POSITIONS, (const uint8_t *)b->bases,
+        POSITIONS, b->quals, POSITIONS, b->depths, POSITIONS, b->errors, POSITIONS, b->evidence.marks, POSITIONS,
+        b->evidence.unconverted, POSITIONS, b->evidence.converted, POSITIONS, m->source, m->source_count[0] + m->source_count[1],
         m->bytes, m->bytes_len, r->bases, POSITIONS, r->quals, POSITIONS, r->errors, POSITIONS, r->a.marks, POSITIONS, r->a.unconverted,
         POSITIONS, r->a.converted, POSITIONS, r->b.marks, POSITIONS, r->b.unconverted, POSITIONS, r->b.converted, POSITIONS);
     if (refused("record", d.refused) || d.kind != GEDRASHIW_BOTH_STRANDS)

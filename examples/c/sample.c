@@ -152,8 +152,16 @@ static void print_metrics(const struct strand_bytes *first, const struct strand_
     printf("  nc %u\n", get32(metrics + 36));
 }
 
+/* What is told of a strand, which may be null: it is not there. */
+static struct gedrashiw_told_encoded_strand told(const struct strand *s)
+{
+    struct gedrashiw_told_encoded_strand t = {s != NULL, s != NULL && s->evidence_len > 0, s != NULL ? s->pattern : 0};
+    return t;
+}
+
 /* a and b may be null: the strand is not there. reads may be null: there is no list. */
-static void print_molecule(const char *name, const struct strand *a, const struct strand *b, const struct read *reads, size_t count)
+static void print_at(const char *name, struct gedrashiw_settings settings, const struct strand *a, const struct strand *b,
+                     const struct read *reads, size_t count)
 {
     static const struct strand none = {.bases = ""};
     const struct strand *x = a ? a : &none, *y = b ? b : &none;
@@ -162,13 +170,13 @@ static void print_molecule(const char *name, const struct strand *a, const struc
     uint8_t run[256];
     size_t run_len = reads ? put_reads(run, reads, count) : 0;
 
+    struct gedrashiw_told_encoded_molecule molecule = {told(a), told(b), reads != NULL, settings};
     struct gedrashiw_duplex_record r = gedrashiw_duplex_consensus(
-        a != NULL, x->evidence_len > 0, x->pattern, (const uint8_t *)x->bases, xs.positions, x->quals, xs.positions, xs.depths,
-        2 * xs.positions, xs.errors, 2 * xs.positions, xs.evidence, GEDRASHIW_EVIDENCE_BYTES * x->evidence_len, b != NULL,
-        y->evidence_len > 0, y->pattern, (const uint8_t *)y->bases, ys.positions, y->quals, ys.positions, ys.depths,
-        2 * ys.positions, ys.errors, 2 * ys.positions, ys.evidence, GEDRASHIW_EVIDENCE_BYTES * y->evidence_len, reads != NULL, run,
-        run_len, out.bases, sizeof out.bases, out.quals, sizeof out.quals, out.errors, sizeof out.errors, out.a_evidence,
-        sizeof out.a_evidence, out.b_evidence, sizeof out.b_evidence);
+        molecule, (const uint8_t *)x->bases, xs.positions, x->quals, xs.positions, xs.depths, 2 * xs.positions, xs.errors,
+        2 * xs.positions, xs.evidence, GEDRASHIW_EVIDENCE_BYTES * x->evidence_len, (const uint8_t *)y->bases, ys.positions, y->quals,
+        ys.positions, ys.depths, 2 * ys.positions, ys.errors, 2 * ys.positions, ys.evidence,
+        GEDRASHIW_EVIDENCE_BYTES * y->evidence_len, run, run_len, out.bases, sizeof out.bases, out.quals, sizeof out.quals, out.errors,
+        sizeof out.errors, out.a_evidence, sizeof out.a_evidence, out.b_evidence, sizeof out.b_evidence);
 
     if (r.refused != 0) {
         printf("%s: refused %u\n", name, r.refused);
@@ -197,12 +205,21 @@ static void print_molecule(const char *name, const struct strand *a, const struc
     print_metrics(b_alone ? &ys : &xs, both ? &ys : NULL, r.positions, &out);
 }
 
+static void print_molecule(const char *name, const struct strand *a, const struct strand *b, const struct read *reads, size_t count)
+{
+    static const struct gedrashiw_settings usual = {GEDRASHIW_MAX_CEILING};
+    print_at(name, usual, a, b, reads, count);
+}
+
 int main(void)
 {
+    static const struct gedrashiw_settings sixty = {60}, two = {2};
     /* Document 01's printed example. */
     struct strand a = {.bases = "ACGT", .quals = {30, 30, 30, 30}, .depths = {2, 2, 2, 2}};
     struct strand b = {.bases = "ACTN", .quals = {20, 40, 30, 2}, .depths = {1, 1, 1, 1}};
     print_molecule("two strands", &a, &b, NULL, 0);
+    print_at("two strands, no quality above 60", sixty, &a, &b, NULL, 0);
+    print_at("two strands, no quality above 2", two, &a, &b, NULL, 0);
     print_molecule("strand B", NULL, &b, NULL, 0);
     b.depths[0] = b.depths[1] = b.depths[2] = b.depths[3] = 0;
     print_molecule("an uncovered strand", NULL, &b, NULL, 0);

@@ -4,7 +4,7 @@
 use gedrashiw::caller::write_consensus_read_name;
 use gedrashiw::methylation::{ConversionPattern, annotate_simplex_methylation, duplex_methylation_tags};
 use gedrashiw::{
-    DuplexConsensusCaller, DuplexConsensusRead, MethylationAnnotation, MethylationMode, MiPart, ReadType, Refusal,
+    DuplexConsensusCaller, DuplexConsensusRead, MethylationAnnotation, MethylationMode, MiPart, ReadType, Refusal, Settings,
     SourceReadBuffer, SourceReads, VanillaConsensusRead,
 };
 
@@ -115,7 +115,8 @@ fn main() -> Result<(), Refusal> {
     a.methylation = Some(annotate("evidence of strand A", SourceReads { reads: of_a, ..source })?);
     b.methylation = Some(annotate("evidence of strand B", SourceReads { reads: of_b, ..source })?);
 
-    let record = DuplexConsensusCaller::duplex_consensus(Some(&a), Some(&b), Some(source))?.expect("both strands are covered");
+    let record = DuplexConsensusCaller::duplex_consensus(Settings::default(), Some(&a), Some(&b), Some(source))?;
+    let record = record.expect("both strands are covered");
     print_record(&record)?;
     print_tags(&record)?;
     let mut name = Vec::new();

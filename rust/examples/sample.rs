@@ -2,7 +2,7 @@
 //! `bin/rust_sample` builds and runs it; examples/c/sample.c does the same in C and prints the same.
 use gedrashiw::methylation::ConversionPattern::{CToT, GToA};
 use gedrashiw::methylation::{EvidenceArrays, MethylationAnnotation, MethylationEvidence};
-use gedrashiw::{DuplexConsensusCaller, Refusal, SourceReadBuffer, SourceReads, VanillaConsensusRead};
+use gedrashiw::{DuplexConsensusCaller, Refusal, Settings, SourceReadBuffer, SourceReads, VanillaConsensusRead};
 
 fn joined<T: ToString>(numbers: &[T]) -> String {
     numbers.iter().map(T::to_string).collect::<Vec<_>>().join(" ")
@@ -19,8 +19,8 @@ fn print_evidence(name: &str, methylation: Option<&MethylationAnnotation>) {
 
 type Strand<'a> = Option<&'a VanillaConsensusRead<'a>>;
 
-fn print_record(name: &str, a: Strand, b: Strand, reads: Option<SourceReads>) -> Result<(), Refusal> {
-    let Some(record) = DuplexConsensusCaller::duplex_consensus(a, b, reads)? else {
+fn print_record(name: &str, settings: Settings, a: Strand, b: Strand, reads: Option<SourceReads>) -> Result<(), Refusal> {
+    let Some(record) = DuplexConsensusCaller::duplex_consensus(settings, a, b, reads)? else {
         println!("{name}: no record, 0 positions");
         return Ok(());
     };
@@ -46,10 +46,14 @@ fn print_record(name: &str, a: Strand, b: Strand, reads: Option<SourceReads>) ->
     Ok(())
 }
 
-fn print_molecule(name: &str, a: Strand, b: Strand, reads: Option<SourceReads>) {
-    if let Err(refusal) = print_record(name, a, b, reads) {
+fn print_at(name: &str, settings: Settings, a: Strand, b: Strand, reads: Option<SourceReads>) {
+    if let Err(refusal) = print_record(name, settings, a, b, reads) {
         println!("{name}: refused {}", refusal.number());
     }
+}
+
+fn print_molecule(name: &str, a: Strand, b: Strand, reads: Option<SourceReads>) {
+    print_at(name, Settings::default(), a, b, reads);
 }
 
 fn main() {
@@ -57,6 +61,8 @@ fn main() {
     let a = VanillaConsensusRead::new(b"ACGT", &[30; 4], &[2; 4], &[0; 4]);
     let b = VanillaConsensusRead::new(b"ACTN", &[20, 40, 30, 2], &[1; 4], &[0; 4]);
     print_molecule("two strands", Some(&a), Some(&b), None);
+    print_at("two strands, no quality above 60", Settings { ceiling: 60 }, Some(&a), Some(&b), None);
+    print_at("two strands, no quality above 2", Settings { ceiling: 2 }, Some(&a), Some(&b), None);
     print_molecule("strand B", None, Some(&b), None);
     let uncovered = VanillaConsensusRead { depths: vec![0; 4].into(), ..b };
     print_molecule("an uncovered strand", None, Some(&uncovered), None);

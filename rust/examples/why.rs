@@ -3,10 +3,11 @@
 //! show there, and a sentence. `bin/why` builds and runs it.
 //!
 //! It is not proved, only thin: it splits the molecule into its fields, and the library, which is proved, makes the record of them and
-//! tells the reasons. Thresholds are not tested, since no base depends on them.
+//! tells the reasons. Thresholds are not tested, since no base depends on them, nor on the ceiling of qualities: the usual settings are
+//! taken.
 use gedrashiw::bytes::{CountBytes, EVIDENCE_BYTES, RecordBytesOut, StrandBytes, duplex_consensus_into, no_call_reason};
 use gedrashiw::methylation::ConversionPattern;
-use gedrashiw::{MAX_POSITIONS, Refusal};
+use gedrashiw::{MAX_POSITIONS, Refusal, Settings};
 use std::fmt::Write;
 use std::io::Read;
 use std::process::ExitCode;
@@ -97,7 +98,7 @@ fn told(molecule: &Molecule, position: Option<usize>) -> Result<String, Refusal>
         first_evidence: &mut first,
         second_evidence: &mut second,
     };
-    let record = duplex_consensus_into(a, b, molecule.reads, &mut out)?;
+    let record = duplex_consensus_into(Settings::default(), a, b, molecule.reads, &mut out)?;
     let bases = &bases[..record.map_or(0, |record| record.positions)];
     let positions = match position {
         Some(position) => vec![position],

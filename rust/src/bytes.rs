@@ -1,12 +1,13 @@
 //! The calls on numbers given as bytes, low byte first, which C programs that keep molecules encoded use. Lengths are in bytes.
 use crate::MAX_POSITIONS;
 use crate::duplex_caller::{Kind, Record, cut};
-use crate::entries;
+use crate::entries::{self, ToldEncodedMolecule, ToldEncodedStrand};
 use crate::methylation::{
     ConversionPattern, CountsOut, DuplexMethylationTags, DuplexTagLengths, DuplexTagsOut, MethylationMode, TagBuffers,
 };
 use crate::reason::NoCallReason;
 use crate::refusal::{Refusal, told};
+use crate::settings::Settings;
 
 /// The bytes of the metrics: ten numbers of 32 bits, aD, aM, aE, bD, bM, bE, cD, cM, cE and nc; the rates are their bits.
 pub const METRICS_BYTES: usize = 40;
@@ -137,23 +138,24 @@ pub fn metrics_into(
 ///
 /// # Errors
 ///
-/// [`Refusal::Broken`], [`Refusal::TooLong`], [`Refusal::Ragged`], [`Refusal::TooManyReads`].
+/// [`Refusal::Broken`], [`Refusal::CeilingOutside`], [`Refusal::TooLong`], [`Refusal::Ragged`], [`Refusal::TooManyReads`].
 ///
 /// ```
-/// use gedrashiw::Kind;
 /// use gedrashiw::bytes::{CountBytes, StrandBytes, duplex_consensus};
 /// use gedrashiw::methylation::ConversionPattern;
+/// use gedrashiw::{Kind, Settings};
 ///
 /// let counts = CountBytes { depths: &[1, 0], errors: &[0, 0] };
 /// let evidence = [1, 3, 0, 0, 0, 4, 0, 0, 0];
 /// let a = StrandBytes { bases: b"T", quals: &[30], counts, annotation: Some((ConversionPattern::CToT, &evidence)) };
 /// let b = StrandBytes { bases: b"C", quals: &[40], annotation: Some((ConversionPattern::GToA, &evidence)), ..a };
-/// let record = duplex_consensus(Some(&a), Some(&b), None)?.expect("both are covered");
-/// assert_eq!((record.kind, record.bases, record.quals, record.errors), (Kind::Both, b"C".to_vec(), vec![70], vec![0, 0]));
+/// let record = duplex_consensus(Settings { ceiling: 60 }, Some(&a), Some(&b), None)?.expect("both are covered");
+/// assert_eq!((record.kind, record.bases, record.quals, record.errors), (Kind::Both, b"C".to_vec(), vec![60], vec![0, 0]));
 /// assert_eq!((record.first_evidence, record.second_evidence), (Some(evidence.to_vec()), Some(vec![0; 9])));
 /// # Ok::<(), gedrashiw::Refusal>(())
 /// ```
 pub fn duplex_consensus(
+    settings: Settings,
     a: Option<&StrandBytes>,
     b: Option<&StrandBytes>,
     reads: Option<&[u8]>,
@@ -170,7 +172,7 @@ pub fn duplex_consensus(
         first_evidence: &mut first,
         second_evidence: &mut second,
     };
-    let Some(Record { kind, positions }) = duplex_consensus_into(a, b, reads, &mut out)? else {
+    let Some(Record { kind, positions }) = duplex_consensus_into(settings, a, b, reads, &mut out)? else {
         return Ok(None);
     };
     let kept = |strand: Option<&StrandBytes>, evidence| {
@@ -195,50 +197,47 @@ pub fn duplex_consensus(
 ///
 /// # Errors
 ///
-/// [`Refusal::Broken`], [`Refusal::TooLong`], [`Refusal::Ragged`], [`Refusal::TooManyReads`], [`Refusal::OutputTooShort`].
+/// As [`duplex_consensus`], and [`Refusal::OutputTooShort`].
 ///
 /// ```
 /// use gedrashiw::bytes::{CountBytes, RecordBytesOut, StrandBytes, duplex_consensus_into};
-/// use gedrashiw::{Kind, Record};
+/// use gedrashiw::{Kind, Record, Settings};
 ///
 /// let counts = CountBytes { depths: &[1, 0], errors: &[0, 0] };
 /// let a = StrandBytes { bases: b"A", quals: &[30], counts, annotation: None };
 /// let (mut bases, mut quals, mut errors) = ([0; 1], [0; 1], [0; 2]);
 /// let mut out = RecordBytesOut { bases: &mut bases, quals: &mut quals, errors: &mut errors, ..Default::default() };
 /// let reads = [0x30, 3, 0, 0x41, 0, b'G'];
-/// let record = duplex_consensus_into(Some(&a), Some(&a), Some(&reads), &mut out)?;
+/// let record = duplex_consensus_into(Settings::default(), Some(&a), Some(&a), Some(&reads), &mut out)?;
 /// assert_eq!(record, Some(Record { kind: Kind::Both, positions: 1 }));
 /// assert_eq!((&bases, quals, errors), (b"A", [60], [1, 0]));
 /// # Ok::<(), gedrashiw::Refusal>(())
 /// ```
 pub fn duplex_consensus_into(
+    settings: Settings,
     a: Option<&StrandBytes>,
     b: Option<&StrandBytes>,
     reads: Option<&[u8]>,
     out: &mut RecordBytesOut,
 ) -> Result<Option<Record>, Refusal> {
-    let (a_present, b_present) = (u8::from(a.is_some()), u8::from(b.is_some()));
+    let (present, listed) = ([a, b].map(|s| u8::from(s.is_some())), u8::from(reads.is_some()));
     let (a, b) = (a.copied().unwrap_or_default(), b.copied().unwrap_or_default());
-    let (a_annotated, a_pattern, a_evidence) = given(a.annotation);
-    let (b_annotated, b_pattern, b_evidence) = given(b.annotation);
+    let (annotated, pattern, a_evidence) = given(a.annotation);
+    let of_a = ToldEncodedStrand { present: present[0], annotated, pattern };
+    let (annotated, pattern, b_evidence) = given(b.annotation);
+    let of_b = ToldEncodedStrand { present: present[1], annotated, pattern };
     let record = entries::gedrashiw_duplex_consensus(
-        a_present,
-        a_annotated,
-        a_pattern,
+        ToldEncodedMolecule { a: of_a, b: of_b, listed, settings },
         a.bases,
         a.quals,
         a.counts.depths,
         a.counts.errors,
         a_evidence,
-        b_present,
-        b_annotated,
-        b_pattern,
         b.bases,
         b.quals,
         b.counts.depths,
         b.counts.errors,
         b_evidence,
-        u8::from(reads.is_some()),
         reads.unwrap_or_default(),
         out.bases,
         out.quals,

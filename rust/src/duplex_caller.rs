@@ -1,9 +1,10 @@
 //! The duplex record: thresholds, the reads' partition and gates, the combination of two strands, depths and metrics.
 use crate::MAX_POSITIONS;
-use crate::entries;
+use crate::entries::{self, ToldMolecule, ToldStrand, ToldStrands};
 use crate::methylation::{ConversionPattern, EvidenceArrays, EvidenceOut, Given, MethylationAnnotation, written};
 use crate::reason::NoCallReason;
 use crate::refusal::{Refusal, told};
+use crate::settings::Settings;
 use crate::vanilla_caller::{SourceReads, VanillaConsensusRead};
 use std::borrow::Cow;
 use std::ops::Range;
@@ -397,10 +398,10 @@ impl DuplexConsensusCaller {
     /// As [`Self::validate_min_reads`], then [`Refusal::TooLong`].
     ///
     /// ```
-    /// use gedrashiw::{DuplexConsensusCaller, VanillaConsensusRead};
+    /// use gedrashiw::{DuplexConsensusCaller, Settings, VanillaConsensusRead};
     ///
     /// let a = VanillaConsensusRead::new(b"AC", &[30; 2], &[4, 5], &[0; 2]);
-    /// let record = DuplexConsensusCaller::duplex_consensus(Some(&a), None, None)?.expect("it is covered");
+    /// let record = DuplexConsensusCaller::duplex_consensus(Settings::default(), Some(&a), None, None)?.expect("it is covered");
     /// assert!(DuplexConsensusCaller::duplex_consensus_has_minimum_reads(&record, &[5, 5, 0])?);
     /// assert!(!DuplexConsensusCaller::duplex_consensus_has_minimum_reads(&record, &[5, 5, 1])?);
     /// # Ok::<(), gedrashiw::Refusal>(())
@@ -528,21 +529,28 @@ impl DuplexConsensusCaller {
     ///
     /// # Errors
     ///
-    /// [`Refusal::TooLong`], [`Refusal::Ragged`].
+    /// [`Refusal::CeilingOutside`], [`Refusal::TooLong`], [`Refusal::Ragged`].
     ///
     /// ```
-    /// use gedrashiw::{DuplexConsensusCaller, VanillaConsensusRead};
+    /// use gedrashiw::{DuplexConsensusCaller, Settings, VanillaConsensusRead};
     ///
     /// let a = VanillaConsensusRead::new(b"AC", &[30; 2], &[1; 2], &[0; 2]);
     /// let b = VanillaConsensusRead::new(b"AT", &[20; 2], &[3; 2], &[0; 2]);
-    /// let combined = DuplexConsensusCaller::combine_strands(&a, &b, false)?;
+    /// let combined = DuplexConsensusCaller::combine_strands(Settings::default(), &a, &b, false)?;
     /// assert_eq!((combined.bases, combined.quals, combined.errors), (b"AC".to_vec(), vec![50, 10], vec![0, 3]));
+    /// let combined = DuplexConsensusCaller::combine_strands(Settings { ceiling: 40 }, &a, &b, false)?;
+    /// assert_eq!((combined.bases, combined.quals, combined.errors), (b"AC".to_vec(), vec![40, 10], vec![0, 3]));
     /// # Ok::<(), gedrashiw::Refusal>(())
     /// ```
-    pub fn combine_strands(a: &VanillaConsensusRead, b: &VanillaConsensusRead, listed: bool) -> Result<CombinedStrands, Refusal> {
+    pub fn combine_strands(
+        settings: Settings,
+        a: &VanillaConsensusRead,
+        b: &VanillaConsensusRead,
+        listed: bool,
+    ) -> Result<CombinedStrands, Refusal> {
         let mut buffers = Buffers::of(a.len().min(b.len()), false);
         let (mut out, ..) = buffers.lent();
-        let positions = Self::combine_strands_into(a, b, listed, &mut out)?;
+        let positions = Self::combine_strands_into(settings, a, b, listed, &mut out)?;
         Ok(buffers.combined(positions, false, false))
     }
 
@@ -550,24 +558,27 @@ impl DuplexConsensusCaller {
     ///
     /// # Errors
     ///
-    /// [`Refusal::TooLong`], [`Refusal::Ragged`], [`Refusal::OutputTooShort`].
+    /// [`Refusal::CeilingOutside`], [`Refusal::TooLong`], [`Refusal::Ragged`], [`Refusal::OutputTooShort`].
     ///
     /// ```
-    /// use gedrashiw::{ConsensusOut, DuplexConsensusCaller, VanillaConsensusRead};
+    /// use gedrashiw::{ConsensusOut, DuplexConsensusCaller, Settings, VanillaConsensusRead};
     ///
     /// let a = VanillaConsensusRead::new(b"AC", &[30; 2], &[1; 2], &[0; 2]);
     /// let (mut bases, mut quals, mut errors) = ([b'.'; 3], [9; 3], [9; 3]);
     /// let mut out = ConsensusOut { bases: &mut bases, quals: &mut quals, errors: &mut errors };
-    /// assert_eq!(DuplexConsensusCaller::combine_strands_into(&a, &a, false, &mut out), Ok(2));
+    /// assert_eq!(DuplexConsensusCaller::combine_strands_into(Settings::default(), &a, &a, false, &mut out), Ok(2));
     /// assert_eq!((&bases, quals, errors), (b"AC.", [60, 60, 9], [0, 0, 9]));
     /// ```
     pub fn combine_strands_into(
+        settings: Settings,
         a: &VanillaConsensusRead,
         b: &VanillaConsensusRead,
         listed: bool,
         out: &mut ConsensusOut,
     ) -> Result<usize, Refusal> {
         let combined = entries::gedrashiw_combine_strands(
+            u8::from(listed),
+            settings,
             &a.bases,
             &a.quals,
             &a.depths,
@@ -576,7 +587,6 @@ impl DuplexConsensusCaller {
             &b.quals,
             &b.depths,
             &b.errors,
-            u8::from(listed),
             out.bases,
             out.quals,
             out.errors,
@@ -588,23 +598,24 @@ impl DuplexConsensusCaller {
     ///
     /// # Errors
     ///
-    /// [`Refusal::TooLong`], [`Refusal::Ragged`].
+    /// [`Refusal::CeilingOutside`], [`Refusal::TooLong`], [`Refusal::Ragged`].
     ///
     /// ```
     /// use gedrashiw::methylation::{ConversionPattern, EvidenceArrays};
-    /// use gedrashiw::{DuplexConsensusCaller, VanillaConsensusRead};
+    /// use gedrashiw::{DuplexConsensusCaller, Settings, VanillaConsensusRead};
     ///
     /// let ct = VanillaConsensusRead::new(b"T", &[30], &[1], &[0])
     ///     .annotated(ConversionPattern::CToT, EvidenceArrays::new(&[1], &[3], &[4]));
     /// let ga = VanillaConsensusRead::new(b"C", &[40], &[1], &[0])
     ///     .annotated(ConversionPattern::GToA, EvidenceArrays::new(&[1], &[7], &[9]));
-    /// let combined = DuplexConsensusCaller::combine_strands_annotated(&ct, &ga, false)?;
+    /// let combined = DuplexConsensusCaller::combine_strands_annotated(Settings::default(), &ct, &ga, false)?;
     /// assert_eq!((combined.bases, combined.quals), (b"C".to_vec(), vec![70]));
     /// assert_eq!(combined.a_evidence, Some(EvidenceArrays::new(&[1], &[3], &[4])));
     /// assert_eq!(combined.b_evidence, Some(EvidenceArrays::new(&[0], &[0], &[0])));
     /// # Ok::<(), gedrashiw::Refusal>(())
     /// ```
     pub fn combine_strands_annotated(
+        settings: Settings,
         a: &VanillaConsensusRead,
         b: &VanillaConsensusRead,
         listed: bool,
@@ -612,7 +623,7 @@ impl DuplexConsensusCaller {
         let (of_a, of_b) = (a.methylation.is_some(), b.methylation.is_some());
         let mut buffers = Buffers::of(a.len().min(b.len()), of_a | of_b);
         let (mut out, mut first, mut second) = buffers.lent();
-        let positions = Self::combine_strands_annotated_into(a, b, listed, &mut out, &mut first, &mut second)?;
+        let positions = Self::combine_strands_annotated_into(settings, a, b, listed, &mut out, &mut first, &mut second)?;
         Ok(buffers.combined(positions, of_a, of_b))
     }
 
@@ -620,21 +631,24 @@ impl DuplexConsensusCaller {
     ///
     /// # Errors
     ///
-    /// [`Refusal::TooLong`], [`Refusal::Ragged`], [`Refusal::OutputTooShort`].
+    /// [`Refusal::CeilingOutside`], [`Refusal::TooLong`], [`Refusal::Ragged`], [`Refusal::OutputTooShort`].
     ///
     /// ```
     /// use gedrashiw::methylation::EvidenceOut;
-    /// use gedrashiw::{ConsensusOut, DuplexConsensusCaller, Refusal, VanillaConsensusRead};
+    /// use gedrashiw::{ConsensusOut, DuplexConsensusCaller, Refusal, Settings, VanillaConsensusRead};
     ///
     /// let a = VanillaConsensusRead::new(b"AC", &[30; 2], &[1; 2], &[0; 2]);
     /// let (mut bases, mut quals, mut errors) = ([b'.'; 1], [9; 2], [9; 2]);
     /// let mut out = ConsensusOut { bases: &mut bases, quals: &mut quals, errors: &mut errors };
     /// let (mut first, mut second) = (EvidenceOut::default(), EvidenceOut::default());
-    /// let written =
-    ///     DuplexConsensusCaller::combine_strands_annotated_into(&a, &a, false, &mut out, &mut first, &mut second);
-    /// assert_eq!(written, Err(Refusal::OutputTooShort));
+    /// let mut written = |settings| {
+    ///     DuplexConsensusCaller::combine_strands_annotated_into(settings, &a, &a, false, &mut out, &mut first, &mut second)
+    /// };
+    /// assert_eq!(written(Settings::default()), Err(Refusal::OutputTooShort));
+    /// assert_eq!(written(Settings { ceiling: 2 }), Err(Refusal::CeilingOutside));
     /// ```
     pub fn combine_strands_annotated_into(
+        settings: Settings,
         a: &VanillaConsensusRead,
         b: &VanillaConsensusRead,
         listed: bool,
@@ -643,12 +657,14 @@ impl DuplexConsensusCaller {
         b_evidence: &mut EvidenceOut,
     ) -> Result<usize, Refusal> {
         let (of_a, of_b) = (Given::of(a.methylation.as_ref()), Given::of(b.methylation.as_ref()));
+        let strands =
+            ToldStrands { a_annotation: of_a.annotation, b_annotation: of_b.annotation, listed: u8::from(listed), settings };
         let combined = entries::gedrashiw_combine_strands_annotated(
+            strands,
             &a.bases,
             &a.quals,
             &a.depths,
             &a.errors,
-            of_a.annotation,
             of_a.marks,
             of_a.unconverted,
             of_a.converted,
@@ -656,11 +672,9 @@ impl DuplexConsensusCaller {
             &b.quals,
             &b.depths,
             &b.errors,
-            of_b.annotation,
             of_b.marks,
             of_b.unconverted,
             of_b.converted,
-            u8::from(listed),
             out.bases,
             out.quals,
             out.errors,
@@ -679,19 +693,22 @@ impl DuplexConsensusCaller {
     ///
     /// # Errors
     ///
-    /// [`Refusal::TooLong`], [`Refusal::Ragged`], [`Refusal::TooManyReads`], [`Refusal::PartOutside`].
+    /// [`Refusal::CeilingOutside`], [`Refusal::TooLong`], [`Refusal::Ragged`], [`Refusal::TooManyReads`], [`Refusal::PartOutside`].
     ///
     /// ```
-    /// use gedrashiw::{DuplexConsensusCaller, VanillaConsensusRead};
+    /// use gedrashiw::{DuplexConsensusCaller, Settings, VanillaConsensusRead};
     ///
     /// let a = VanillaConsensusRead::new(b"ACGT", &[30; 4], &[2; 4], &[0; 4]);
     /// let b = VanillaConsensusRead::new(b"ACTN", &[20, 40, 30, 2], &[1; 4], &[0; 4]);
-    /// let record = DuplexConsensusCaller::duplex_consensus(Some(&a), Some(&b), None)?.expect("both are covered");
-    /// assert_eq!(record.bases, b"ACNN");
-    /// assert_eq!(record.errors, [0, 0, 1, 1]);
+    /// let record = |settings| DuplexConsensusCaller::duplex_consensus(settings, Some(&a), Some(&b), None);
+    /// let usual = record(Settings::default())?.expect("both are covered");
+    /// assert_eq!((usual.bases, usual.quals, usual.errors), (b"ACNN".to_vec(), vec![50, 70, 2, 2], vec![0, 0, 1, 1]));
+    /// let held = record(Settings { ceiling: 60 })?.expect("both are covered");
+    /// assert_eq!((held.bases, held.quals, held.errors), (b"ACNN".to_vec(), vec![50, 60, 2, 2], vec![0, 0, 1, 1]));
     /// # Ok::<(), gedrashiw::Refusal>(())
     /// ```
     pub fn duplex_consensus<'a>(
+        settings: Settings,
         ab: Option<&'a VanillaConsensusRead>,
         ba: Option<&'a VanillaConsensusRead>,
         source_reads: Option<SourceReads>,
@@ -700,7 +717,7 @@ impl DuplexConsensusCaller {
         let longest = strands().map(VanillaConsensusRead::len).max().unwrap_or(0);
         let mut buffers = Buffers::of(longest, strands().any(|s| s.methylation.is_some()));
         let (mut out, mut first, mut second) = buffers.lent();
-        let Some(record) = Self::duplex_consensus_into(ab, ba, source_reads, &mut out, &mut first, &mut second)? else {
+        let Some(record) = Self::duplex_consensus_into(settings, ab, ba, source_reads, &mut out, &mut first, &mut second)? else {
             return Ok(None);
         };
         let n = record.positions;
@@ -728,7 +745,7 @@ impl DuplexConsensusCaller {
     ///
     /// ```
     /// use gedrashiw::methylation::EvidenceOut;
-    /// use gedrashiw::{ConsensusOut, DuplexConsensusCaller, Kind, Record, SourceReadBuffer, VanillaConsensusRead};
+    /// use gedrashiw::{ConsensusOut, DuplexConsensusCaller, Kind, Record, Settings, SourceReadBuffer, VanillaConsensusRead};
     ///
     /// let a = VanillaConsensusRead::new(b"AC", &[30; 2], &[1; 2], &[0; 2]);
     /// let mut reads = SourceReadBuffer::default();
@@ -736,14 +753,15 @@ impl DuplexConsensusCaller {
     /// let (mut bases, mut quals, mut errors) = ([0; 1024], [0; 1024], [0; 1024]);
     /// let mut out = ConsensusOut { bases: &mut bases, quals: &mut quals, errors: &mut errors };
     /// let (mut first, mut second) = (EvidenceOut::default(), EvidenceOut::default());
-    /// let list = Some(reads.list());
+    /// let (settings, list) = (Settings::default(), Some(reads.list()));
     /// let record =
-    ///     DuplexConsensusCaller::duplex_consensus_into(Some(&a), Some(&a), list, &mut out, &mut first, &mut second)?;
+    ///     DuplexConsensusCaller::duplex_consensus_into(settings, Some(&a), Some(&a), list, &mut out, &mut first, &mut second)?;
     /// assert_eq!(record, Some(Record { kind: Kind::Both, positions: 2 }));
     /// assert_eq!((&out.bases[..2], &out.errors[..2]), (&b"AC"[..], &[1, 0][..]));
     /// # Ok::<(), gedrashiw::Refusal>(())
     /// ```
     pub fn duplex_consensus_into(
+        settings: Settings,
         ab: Option<&VanillaConsensusRead>,
         ba: Option<&VanillaConsensusRead>,
         source_reads: Option<SourceReads>,
@@ -753,26 +771,24 @@ impl DuplexConsensusCaller {
     ) -> Result<Option<Record>, Refusal> {
         let (a, b) = (GivenStrand::of(ab), GivenStrand::of(ba));
         let list = source_reads.unwrap_or_default();
+        let molecule =
+            ToldMolecule { a: a.told(ab.is_some()), b: b.told(ba.is_some()), listed: u8::from(source_reads.is_some()), settings };
         let record = entries::gedrashiw_duplex_consensus_typed(
-            u8::from(ab.is_some()),
+            molecule,
             a.bases,
             a.quals,
             a.depths,
             a.errors,
-            a.evidence.annotation,
             a.evidence.marks,
             a.evidence.unconverted,
             a.evidence.converted,
-            u8::from(ba.is_some()),
             b.bases,
             b.quals,
             b.depths,
             b.errors,
-            b.evidence.annotation,
             b.evidence.marks,
             b.evidence.unconverted,
             b.evidence.converted,
-            u8::from(source_reads.is_some()),
             list.reads,
             list.bytes,
             out.bases,
@@ -789,7 +805,8 @@ impl DuplexConsensusCaller {
     }
 
     /// Why the record that [`Self::duplex_consensus`] makes of the same strands shows N at a position, counted from 0; or that it shows a
-    /// base there, that it is of one strand, or that it does not reach so far. Source reads change no base, so none are taken.
+    /// base there, that it is of one strand, or that it does not reach so far. Source reads change no base, and a ceiling makes none N, so
+    /// neither is taken.
     ///
     /// # Errors
     ///
@@ -870,6 +887,10 @@ impl<'a> GivenStrand<'a> {
             evidence: Given::of(s.methylation.as_ref()),
         })
     }
+
+    fn told(&self, present: bool) -> ToldStrand {
+        ToldStrand { present: u8::from(present), annotation: self.evidence.annotation }
+    }
 }
 
 /// The first so many.
@@ -932,10 +953,10 @@ impl DuplexConsensusRead<'_> {
     /// How many positions it has.
     ///
     /// ```
-    /// # use gedrashiw::{DuplexConsensusCaller, VanillaConsensusRead};
+    /// # use gedrashiw::{DuplexConsensusCaller, Settings, VanillaConsensusRead};
     /// let a = VanillaConsensusRead::new(b"ACG", &[30; 3], &[1; 3], &[0; 3]);
     /// let b = VanillaConsensusRead::new(b"AC", &[30; 2], &[1; 2], &[0; 2]);
-    /// let record = DuplexConsensusCaller::duplex_consensus(Some(&a), Some(&b), None)?.expect("both are covered");
+    /// let record = DuplexConsensusCaller::duplex_consensus(Settings::default(), Some(&a), Some(&b), None)?.expect("both are covered");
     /// assert_eq!(record.len(), 2);
     /// # Ok::<(), gedrashiw::Refusal>(())
     /// ```
@@ -947,9 +968,9 @@ impl DuplexConsensusRead<'_> {
     /// Whether it has none, as no record that a call has made.
     ///
     /// ```
-    /// # use gedrashiw::{DuplexConsensusCaller, VanillaConsensusRead};
+    /// # use gedrashiw::{DuplexConsensusCaller, Settings, VanillaConsensusRead};
     /// let a = VanillaConsensusRead::new(b"A", &[30], &[1], &[0]);
-    /// let record = DuplexConsensusCaller::duplex_consensus(Some(&a), None, None)?.expect("it is covered");
+    /// let record = DuplexConsensusCaller::duplex_consensus(Settings::default(), Some(&a), None, None)?.expect("it is covered");
     /// assert!(!record.is_empty());
     /// # Ok::<(), gedrashiw::Refusal>(())
     /// ```
@@ -970,9 +991,9 @@ impl DuplexConsensusRead<'_> {
     /// [`Refusal::TooLong`], of a record that no call has made.
     ///
     /// ```
-    /// # use gedrashiw::{DuplexConsensusCaller, VanillaConsensusRead};
+    /// # use gedrashiw::{DuplexConsensusCaller, Settings, VanillaConsensusRead};
     /// let a = VanillaConsensusRead::new(b"AC", &[30; 2], &[1, 40_000], &[0; 2]);
-    /// let record = DuplexConsensusCaller::duplex_consensus(Some(&a), Some(&a), None)?.expect("it is covered");
+    /// let record = DuplexConsensusCaller::duplex_consensus(Settings::default(), Some(&a), Some(&a), None)?.expect("it is covered");
     /// assert_eq!(record.combined_depths()?, [2, 65_535]);
     /// # Ok::<(), gedrashiw::Refusal>(())
     /// ```
@@ -988,9 +1009,9 @@ impl DuplexConsensusRead<'_> {
     /// [`Refusal::TooLong`], of a record that no call has made.
     ///
     /// ```
-    /// # use gedrashiw::{DuplexConsensusCaller, VanillaConsensusRead};
+    /// # use gedrashiw::{DuplexConsensusCaller, Settings, VanillaConsensusRead};
     /// let a = VanillaConsensusRead::new(b"AC", &[30; 2], &[1, 5], &[0; 2]);
-    /// let record = DuplexConsensusCaller::duplex_consensus(Some(&a), Some(&a), None)?.expect("it is covered");
+    /// let record = DuplexConsensusCaller::duplex_consensus(Settings::default(), Some(&a), Some(&a), None)?.expect("it is covered");
     /// assert_eq!(record.depth_range()?, (2, 10));
     /// # Ok::<(), gedrashiw::Refusal>(())
     /// ```
@@ -1007,10 +1028,10 @@ impl DuplexConsensusRead<'_> {
     /// [`Refusal::TooLong`], [`Refusal::Ragged`], of a record that no call has made.
     ///
     /// ```
-    /// # use gedrashiw::{DuplexConsensusCaller, VanillaConsensusRead};
+    /// # use gedrashiw::{DuplexConsensusCaller, Settings, VanillaConsensusRead};
     /// let a = VanillaConsensusRead::new(b"ACGT", &[30; 4], &[2; 4], &[0; 4]);
     /// let b = VanillaConsensusRead::new(b"ACTN", &[20, 40, 30, 2], &[1; 4], &[0; 4]);
-    /// let record = DuplexConsensusCaller::duplex_consensus(Some(&a), Some(&b), None)?.expect("both are covered");
+    /// let record = DuplexConsensusCaller::duplex_consensus(Settings::default(), Some(&a), Some(&b), None)?.expect("both are covered");
     /// let metrics = record.metrics()?;
     /// assert_eq!((metrics.aD, metrics.cD, metrics.cE.to_bits(), metrics.nc), (2, 3, 0x3e2a_aaab, 2));
     /// # Ok::<(), gedrashiw::Refusal>(())

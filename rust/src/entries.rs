@@ -3,8 +3,49 @@
 //! its elements. Where a reply's `refused` is not 0, it is the refusal's number.
 #![expect(clippy::too_many_arguments, reason = "the entry points take all arrays one by one")]
 use crate::duplex_caller::MiPart;
+use crate::settings::Settings;
 use crate::vanilla_caller::SourceRead;
 use std::mem::MaybeUninit;
+
+/// Of a strand that may be missing. Its annotation is a number: 0 none, 1 C to T, 2 G to A.
+#[repr(C)]
+pub(crate) struct ToldStrand {
+    pub present: u8,
+    pub annotation: u8,
+}
+
+#[repr(C)]
+pub(crate) struct ToldMolecule {
+    pub a: ToldStrand,
+    pub b: ToldStrand,
+    pub listed: u8,
+    pub settings: Settings,
+}
+
+/// Of two strands that are there.
+#[repr(C)]
+pub(crate) struct ToldStrands {
+    pub a_annotation: u8,
+    pub b_annotation: u8,
+    pub listed: u8,
+    pub settings: Settings,
+}
+
+/// Of a strand whose arrays are bytes. Its pattern is 0 C to T, 1 G to A.
+#[repr(C)]
+pub(crate) struct ToldEncodedStrand {
+    pub present: u8,
+    pub annotated: u8,
+    pub pattern: u8,
+}
+
+#[repr(C)]
+pub(crate) struct ToldEncodedMolecule {
+    pub a: ToldEncodedStrand,
+    pub b: ToldEncodedStrand,
+    pub listed: u8,
+    pub settings: Settings,
+}
 
 #[repr(C)]
 pub(crate) struct DuplexRecord {
@@ -169,7 +210,7 @@ macro_rules! entry {
 
 // Numbers and names.
 entry! {
-    fn gedrashiw_cap_quality(score: u16) -> u8;
+    fn gedrashiw_cap_quality(score: u16, ceiling: u8) -> Number;
     fn gedrashiw_clamp_per_base_to_fgbio_short(depth: u16) -> u32;
     fn gedrashiw_clamp_combined_error_to_fgbio_short(error_sum: i32) -> u16;
     fn gedrashiw_rate_bits(errors: u32, depth: u32) -> u32;
@@ -234,15 +275,17 @@ entry! {
 // The combination of strands.
 entry! {
     fn gedrashiw_combine_strands(
+        listed: u8, settings: Settings,
         a_bases: &[u8], a_quals: &[u8], a_depths: &[u16], a_errors: &[u16],
         b_bases: &[u8], b_quals: &[u8], b_depths: &[u16], b_errors: &[u16],
-        listed: u8, bases_out: &mut [u8], quals_out: &mut [u8], errors_out: &mut [u16]) -> Count;
+        bases_out: &mut [u8], quals_out: &mut [u8], errors_out: &mut [u16]) -> Count;
     fn gedrashiw_combine_strands_annotated(
+        strands: ToldStrands,
         a_bases: &[u8], a_quals: &[u8], a_depths: &[u16], a_errors: &[u16],
-        a_annotation: u8, a_marks: &[u8], a_unconverted: &[u32], a_converted: &[u32],
+        a_marks: &[u8], a_unconverted: &[u32], a_converted: &[u32],
         b_bases: &[u8], b_quals: &[u8], b_depths: &[u16], b_errors: &[u16],
-        b_annotation: u8, b_marks: &[u8], b_unconverted: &[u32], b_converted: &[u32],
-        listed: u8, bases_out: &mut [u8], quals_out: &mut [u8], errors_out: &mut [u16],
+        b_marks: &[u8], b_unconverted: &[u32], b_converted: &[u32],
+        bases_out: &mut [u8], quals_out: &mut [u8], errors_out: &mut [u16],
         a_marks_out: &mut [u8], a_unconverted_out: &mut [u32], a_converted_out: &mut [u32],
         b_marks_out: &mut [u8], b_unconverted_out: &mut [u32], b_converted_out: &mut [u32]) -> Count;
     fn gedrashiw_gated_single_strand(
@@ -251,11 +294,12 @@ entry! {
         bases_out: &mut [u8], quals_out: &mut [u8], errors_out: &mut [u16],
         marks_out: &mut [u8], unconverted_out: &mut [u32], converted_out: &mut [u32]) -> Count;
     fn gedrashiw_duplex_consensus_typed(
-        a_present: u8, a_bases: &[u8], a_quals: &[u8], a_depths: &[u16], a_errors: &[u16],
-        a_annotation: u8, a_marks: &[u8], a_unconverted: &[u32], a_converted: &[u32],
-        b_present: u8, b_bases: &[u8], b_quals: &[u8], b_depths: &[u16], b_errors: &[u16],
-        b_annotation: u8, b_marks: &[u8], b_unconverted: &[u32], b_converted: &[u32],
-        listed: u8, reads: &[SourceRead], bytes: &[u8],
+        molecule: ToldMolecule,
+        a_bases: &[u8], a_quals: &[u8], a_depths: &[u16], a_errors: &[u16],
+        a_marks: &[u8], a_unconverted: &[u32], a_converted: &[u32],
+        b_bases: &[u8], b_quals: &[u8], b_depths: &[u16], b_errors: &[u16],
+        b_marks: &[u8], b_unconverted: &[u32], b_converted: &[u32],
+        reads: &[SourceRead], bytes: &[u8],
         bases_out: &mut [u8], quals_out: &mut [u8], errors_out: &mut [u16],
         a_marks_out: &mut [u8], a_unconverted_out: &mut [u32], a_converted_out: &mut [u32],
         b_marks_out: &mut [u8], b_unconverted_out: &mut [u32], b_converted_out: &mut [u32]) -> DuplexRecord;
@@ -295,11 +339,10 @@ entry! {
         a_depths: &[u8], a_errors: &[u8], second: u8, b_depths: &[u8], b_errors: &[u8],
         bases: &[u8], errors: &[u8], out: &mut [u8]) -> u8;
     fn gedrashiw_duplex_consensus(
-        a_present: u8, a_annotated: u8, a_pattern: u8,
+        molecule: ToldEncodedMolecule,
         a_bases: &[u8], a_quals: &[u8], a_depths: &[u8], a_errors: &[u8], a_evidence: &[u8],
-        b_present: u8, b_annotated: u8, b_pattern: u8,
         b_bases: &[u8], b_quals: &[u8], b_depths: &[u8], b_errors: &[u8], b_evidence: &[u8],
-        listed: u8, reads: &[u8],
+        reads: &[u8],
         bases_out: &mut [u8], quals_out: &mut [u8], errors_out: &mut [u8],
         a_evidence_out: &mut [u8], b_evidence_out: &mut [u8]) -> DuplexRecord;
     fn gedrashiw_no_call_reason(

@@ -1,16 +1,18 @@
 //! Gedrashiw for Rust programs: the calls of a duplex consensus caller, which are proved to give what document 01 says, under the
 //! names that fgumi-consensus has for them. Nothing is computed here, and no input is copied: each call passes the caller's slices
 //! on to the library. A call whose name ends in `_into` writes to the caller's outputs and allocates nothing; the one beside it
-//! returns vectors. What an output holds past what is written stays as it was, and a refused call writes nothing.
+//! returns vectors. What an output holds past what is written stays as it was, and a refused call writes nothing. The calls that combine
+//! two strands take first what the lab chooses, its [`Settings`].
 //!
 //! A molecule from its strands to its record, its gate and its metrics:
 //!
 //! ```
-//! use gedrashiw::{DuplexConsensusCaller, VanillaConsensusRead};
+//! use gedrashiw::{DuplexConsensusCaller, Settings, VanillaConsensusRead};
 //!
 //! let a = VanillaConsensusRead::new(b"ACGT", &[30; 4], &[2; 4], &[0; 4]);
 //! let b = VanillaConsensusRead::new(b"ACTN", &[20, 40, 30, 2], &[1; 4], &[0; 4]);
-//! let record = DuplexConsensusCaller::duplex_consensus(Some(&a), Some(&b), None)?.expect("both strands are covered");
+//! let record = DuplexConsensusCaller::duplex_consensus(Settings::default(), Some(&a), Some(&b), None)?;
+//! let record = record.expect("both strands are covered");
 //! assert_eq!(record.bases, b"ACNN");
 //! assert!(DuplexConsensusCaller::duplex_consensus_has_minimum_reads(&record, &[3, 1])?);
 //! assert_eq!(record.metrics()?.cD, 3);
@@ -26,6 +28,7 @@ pub mod methylation;
 pub mod phred;
 mod reason;
 mod refusal;
+mod settings;
 #[cfg(test)]
 mod tests;
 pub mod vanilla_caller;
@@ -38,6 +41,7 @@ pub use duplex_caller::{
 pub use methylation::{MethylationAnnotation, MethylationMode};
 pub use reason::NoCallReason;
 pub use refusal::Refusal;
+pub use settings::Settings;
 pub use vanilla_caller::{SourceRead, SourceReadBuffer, SourceReads, StrandOut, VanillaConsensusRead};
 
 /// The most positions of a strand or a record.

@@ -1,7 +1,7 @@
 //! What refuses a call.
 use std::fmt;
 
-/// A row of document 01's refusal table: why a call was refused. A refused call has written nothing.
+/// A row of the refusal table of documents 01 and 02: why a call was refused. A refused call has written nothing.
 ///
 /// ```
 /// use gedrashiw::{DuplexConsensusCaller, Refusal};
@@ -40,11 +40,13 @@ pub enum Refusal {
     OutputTooShort = 12,
     /// Of bytes alone: they do not read as what they stand for. The calls on numbers have no such answer here.
     Broken = 13,
+    /// A quality ceiling outside 3 to 93.
+    CeilingOutside = 14,
 }
 
 impl Refusal {
     /// Every row, by number.
-    pub const ALL: [Refusal; 13] = [
+    pub const ALL: [Refusal; 14] = [
         Refusal::NoThresholds,
         Refusal::TooManyThresholds,
         Refusal::XyAboveTotal,
@@ -58,6 +60,7 @@ impl Refusal {
         Refusal::BelowLength,
         Refusal::OutputTooShort,
         Refusal::Broken,
+        Refusal::CeilingOutside,
     ];
 
     /// Its number in the table.
@@ -86,6 +89,7 @@ impl Refusal {
             Refusal::BelowLength => "padding below the present length",
             Refusal::OutputTooShort => "a lent output is shorter than what goes there",
             Refusal::Broken => "a broken run, a byte count that does not fit the widths or a pattern above 1",
+            Refusal::CeilingOutside => "quality ceiling outside 3 to 93",
         }
     }
 }

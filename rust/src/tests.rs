@@ -24,13 +24,13 @@ fn kept(s: &Strand) -> Option<Vec<MethylationEvidence>> {
 }
 
 fn consensus<'a>(a: Option<&'a Strand>, b: Option<&'a Strand>) -> Result<Option<DuplexConsensusRead<'a>>, Refusal> {
-    DuplexConsensusCaller::duplex_consensus(a, b, None)
+    DuplexConsensusCaller::duplex_consensus(Settings::default(), a, b, None)
 }
 
 fn listed<'a>(a: Option<&'a Strand>, reads: &[(u16, &[u8])]) -> Result<Option<DuplexConsensusRead<'a>>, Refusal> {
     let mut list = SourceReadBuffer::default();
     reads.iter().for_each(|&(flags, bases)| list.push(flags, bases));
-    DuplexConsensusCaller::duplex_consensus(a, a, Some(list.list()))
+    DuplexConsensusCaller::duplex_consensus(Settings::default(), a, a, Some(list.list()))
 }
 
 /// The base, quality and errors of one position of two strands of depth 1.
@@ -152,7 +152,8 @@ fn reads() {
     assert_eq!(estimated, [14, 14]);
     let outside = [SourceRead { flags: 0, offset: 1, length: usize::MAX }];
     let list = Some(SourceReads { reads: &outside, bytes: b"AC" });
-    assert_eq!(DuplexConsensusCaller::duplex_consensus(Some(&a), None, list), Err(Refusal::PartOutside));
+    let refused = |ceiling| DuplexConsensusCaller::duplex_consensus(Settings { ceiling }, Some(&a), None, list).err();
+    assert_eq!([93, 3, 94].map(refused), [Refusal::PartOutside, Refusal::PartOutside, Refusal::CeilingOutside].map(Some));
 }
 
 #[test]
@@ -173,6 +174,52 @@ fn refusals() {
     assert_eq!(listed(None, &many[..1024]), Ok(None));
 }
 
+/// A ceiling holds the qualities of two strands and nothing else; a strand alone keeps its own.
+#[test]
+fn ceilings() {
+    let a = strand(b"ACGTTA", &[30, 60, 46, 33, 40, 1], &[2; 6], &[1, 0, 3, 0, 0, 0]);
+    let b = strand(b"ACGANA", &[20, 60, 47, 30, 2, 1], &[3; 6], &[0, 5, 0, 1, 0, 0]);
+    let of = |ceiling, a, b| DuplexConsensusCaller::duplex_consensus(Settings { ceiling }, a, b, None);
+    let usual = of(93, Some(&a), Some(&b)).unwrap().unwrap();
+    assert_eq!((&usual.bases[..], &usual.quals[..]), (&b"ACGTNN"[..], &[50, 93, 93, 3, 2, 2][..]));
+    for ceiling in 3..=93 {
+        let held = DuplexConsensusRead { quals: usual.quals.iter().map(|&qual| qual.min(ceiling)).collect(), ..usual.clone() };
+        assert_eq!(of(ceiling, Some(&a), Some(&b)), Ok(Some(held)));
+        assert_eq!(of(ceiling, None, Some(&b)), consensus(None, Some(&b)));
+        assert_eq!(of(ceiling, None, None), Ok(None));
+    }
+}
+
+/// A ceiling outside is refused before 7, whatever record there would be, by every call that takes one.
+#[test]
+fn ceilings_outside() {
+    let a = strand(b"AC", &[30; 2], &[1; 2], &[0; 2]);
+    let long = Strand { errors: vec![0; 1025].into(), ..a.clone() };
+    let outside = Some(Refusal::CeilingOutside);
+    for settings in [0, 1, 2, 94, 255].map(|ceiling| Settings { ceiling }) {
+        assert_eq!(phred::cap_quality(30, settings.ceiling).err(), outside);
+        for s in [None, Some(&a), Some(&long)] {
+            assert_eq!(DuplexConsensusCaller::duplex_consensus(settings, s, None, None).err(), outside);
+            assert_eq!(DuplexConsensusCaller::duplex_consensus(settings, Some(&a), s, None).err(), outside);
+        }
+        for s in [&a, &long] {
+            assert_eq!(DuplexConsensusCaller::combine_strands(settings, &a, s, false).err(), outside);
+            assert_eq!(DuplexConsensusCaller::combine_strands_annotated(settings, s, &a, true).err(), outside);
+        }
+        // As bytes 13 comes before it, also that of a broken run.
+        let counts = CountBytes { depths: &[1, 0, 1, 0], errors: &[0; 4] };
+        let sound = StrandBytes { bases: b"AC", quals: &[30; 2], counts, annotation: None };
+        let long = StrandBytes { quals: &[30; 1025], ..sound };
+        let odd = StrandBytes { counts: CountBytes { errors: &[0; 3], ..counts }, ..sound };
+        let refused = |s, reads| bytes::duplex_consensus(settings, s, None, reads).err();
+        assert_eq!([None, Some(&sound), Some(&long)].map(|s| refused(s, None)), [outside; 3]);
+        assert_eq!(
+            (refused(Some(&odd), None), refused(Some(&sound), Some(b"1"))),
+            (Some(Refusal::Broken), Some(Refusal::Broken))
+        );
+    }
+}
+
 /// A refused call writes nothing, and places past what is written stay.
 #[test]
 fn outputs_of_the_caller() {
@@ -183,6 +230,7 @@ fn outputs_of_the_caller() {
         let mut out = ConsensusOut { bases: &mut bases[..places], quals: &mut quals, errors: &mut errors };
         let (mut first, mut second) = (EvidenceArrays::clear(3), EvidenceArrays::clear(0));
         let told = DuplexConsensusCaller::duplex_consensus_into(
+            Settings::default(),
             Some(&a),
             None,
             None,
@@ -252,6 +300,7 @@ fn padding_is_no_no_call() {
 /// The calls on bytes say the same as those on numbers.
 #[test]
 fn as_bytes() {
+    let usual = Settings::default();
     let counts = CountBytes { depths: &[5, 0, 6, 0], errors: &[1, 0, 1, 0] };
     let marks = [1, 1, 0, 0, 0, 2, 0, 0, 0, 0, 7, 0, 0, 0, 7, 0, 0, 0];
     let a = StrandBytes { bases: b"CC", quals: &[30; 2], counts, annotation: Some((CToT, &marks)) };
@@ -263,7 +312,7 @@ fn as_bytes() {
         first_evidence: &mut first,
         second_evidence: &mut [],
     };
-    let record = bytes::duplex_consensus_into(Some(&a), None, None, &mut out);
+    let record = bytes::duplex_consensus_into(usual, Some(&a), None, None, &mut out);
     assert_eq!(record, Ok(Some(Record { kind: Kind::Ab, positions: 2 })));
     assert_eq!((&bases, quals, errors), (b"CC", [30; 2], [1, 0, 1, 0]));
     assert_eq!((&first[..9], &first[9..]), (&marks[..9], &[0; 9][..]));
@@ -275,9 +324,9 @@ fn as_bytes() {
         first_evidence: Some(first.into()),
         second_evidence: None,
     };
-    assert_eq!(bytes::duplex_consensus(Some(&a), None, None), Ok(Some(made.clone())));
-    assert_eq!(bytes::duplex_consensus(None, Some(&a), None), Ok(Some(RecordBytes { kind: Kind::Ba, ..made })));
-    assert_eq!(bytes::duplex_consensus(None, None, None), Ok(None));
+    assert_eq!(bytes::duplex_consensus(usual, Some(&a), None, None), Ok(Some(made.clone())));
+    assert_eq!(bytes::duplex_consensus(usual, None, Some(&a), None), Ok(Some(RecordBytes { kind: Kind::Ba, ..made })));
+    assert_eq!(bytes::duplex_consensus(usual, None, None, None), Ok(None));
     let words = bytes::metrics(counts, None, &bases, &errors).unwrap();
     let m = duplex_metrics(Counts { depths: &[5, 6], errors: &[1, 1] }, None, b"CC", &[1, 1]).unwrap();
     let expected = [m.aD, m.aM, m.aE.to_bits(), m.bD, m.bM, m.bE.to_bits(), m.cD, m.cM, m.cE.to_bits(), m.nc];
