@@ -30,16 +30,18 @@ static void duplex_metrics(void) {
 }
 
 static void consensus(void) {
-    gedrashiw_duplex_consensus(1, 1, 0, bases[0], N, quals[0], N, depth_bytes[0], 2 * N, error_bytes[0], 2 * N, evidence[0], 9 * N, 1, 1, 1,
-                               bases[1], N, quals[1], N, depth_bytes[1], 2 * N, error_bytes[1], 2 * N, evidence[1], 9 * N, 1, run, sizeof run,
-                               out[0], N, out[1], N, out[2], 2 * N, out[3], 9 * N, out[4], 9 * N);
+    struct gedrashiw_told_encoded_molecule molecule = {{1, 1, 0}, {1, 1, 1}, 1, {GEDRASHIW_MAX_CEILING}};
+    gedrashiw_duplex_consensus(molecule, bases[0], N, quals[0], N, depth_bytes[0], 2 * N, error_bytes[0], 2 * N, evidence[0], 9 * N, bases[1], N,
+                               quals[1], N, depth_bytes[1], 2 * N, error_bytes[1], 2 * N, evidence[1], 9 * N, run, sizeof run, out[0], N, out[1],
+                               N, out[2], 2 * N, out[3], 9 * N, out[4], 9 * N);
 }
 
 static void consensus_typed(void) {
-    gedrashiw_duplex_consensus_typed(1, bases[0], N, quals[0], N, depths[0], N, errors[0], N, 1, marks[0], N, counts[0][0], N, counts[0][1], N, 1,
-                                     bases[1], N, quals[1], N, depths[1], N, errors[1], N, 2, marks[1], N, counts[1][0], N, counts[1][1], N, 1,
-                                     reads, READS, reads_bytes, sizeof reads_bytes, out[0], N, out[1], N, out16[0], N, out[2], N, out32[0], N,
-                                     out32[1], N, out[3], N, out32[2], N, out32[3], N);
+    struct gedrashiw_told_molecule molecule = {{1, 1}, {1, 2}, 1, {GEDRASHIW_MAX_CEILING}};
+    gedrashiw_duplex_consensus_typed(molecule, bases[0], N, quals[0], N, depths[0], N, errors[0], N, marks[0], N, counts[0][0], N, counts[0][1], N,
+                                     bases[1], N, quals[1], N, depths[1], N, errors[1], N, marks[1], N, counts[1][0], N, counts[1][1], N, reads,
+                                     READS, reads_bytes, sizeof reads_bytes, out[0], N, out[1], N, out16[0], N, out[2], N, out32[0], N, out32[1], N,
+                                     out[3], N, out32[2], N, out32[3], N);
 }
 
 static void reason(void) {

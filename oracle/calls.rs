@@ -1,5 +1,5 @@
 // Reads vectors from standard input (README.md has their form) and writes a line for each: `R` or `T`, and then what the call
-// must say. R: the Rust says so. T: document 01's refusal table does, for an input outside the Rust's domain.
+// must say. R: the Rust says so. T: the refusal table does, or document 02's rule, for an input outside the Rust's domain.
 use super::*;
 use crate::MethylationMode;
 use crate::caller::*;
@@ -80,8 +80,12 @@ fn yes(answer: bool) -> Said {
     rust(u8::from(answer))
 }
 
+fn rule(answer: impl Display) -> Said {
+    Said { by_rust: false, text: String::new() }.and(answer)
+}
+
 fn table(row: u8) -> Said {
-    Said { by_rust: false, text: format!(" refused {row}") }
+    rule("refused").and(row)
 }
 
 // The first of rows 7 and 8 that is met, by the lengths of the arrays of each strand and record.
@@ -113,6 +117,16 @@ fn thresholds(list: &[u32]) -> std::result::Result<[usize; 3], u8> {
     let list: Vec<usize> = list.iter().map(|&n| n as usize).collect();
     DuplexConsensusCaller::validate_min_reads(&list).map_err(|message| row_of(&message))?;
     Ok(DuplexConsensusCaller::padded_min_reads(list))
+}
+
+// Field 0: the score; 1: the ceiling. The Rust's is 93; for another one document 02's request 102 is the rule.
+fn cap_quality(v: &Vector) -> Said {
+    let (score, ceiling) = (v.u16s(0)[0], u16::from(v.u8s(1)[0]));
+    match ceiling {
+        93 => rust(DuplexConsensusCaller::cap_quality(score.into())),
+        3..93 => rule(if score < 2 { 2 } else if score > ceiling { ceiling } else { score }),
+        _ => table(14),
+    }
 }
 
 fn read_name(v: &Vector) -> Said {
@@ -396,7 +410,7 @@ fn position(v: &Vector) -> Said {
 
 fn said(call: u8, v: &Vector) -> Said {
     match call {
-        1 => rust(DuplexConsensusCaller::cap_quality(v.u16s(0)[0].into())),
+        1 => cap_quality(v),
         2 => rust(clamp_per_base_to_fgbio_short(v.u16s(0)[0])),
         3 => rust(clamp_combined_error_to_fgbio_short((v.u32s(0)[0] as i32).into())),
         4 => read_name(v),

@@ -133,6 +133,15 @@ def one_u16(call):
     return [head + struct.pack("<H", n) for n in range(65536)]
 
 
+def ceilings(call):
+    """Every number of 16 bits with the ceiling 93; every byte as a ceiling, with the numbers about it and some others."""
+    pairs = [(n, 93) for n in range(65536)]
+    for ceiling in range(256):
+        near = [0, 1, 2, 3, 4, ceiling - 1, ceiling, ceiling + 1, 93, 94, 255, 256, 256 + ceiling, 510, 65535]
+        pairs += [(n, ceiling) for n in sorted(set(near)) if n >= 0]
+    return [vector(call, u16([n]), u8([ceiling])) for n, ceiling in pairs]
+
+
 def byte_pairs(call):
     head = vector(call, u8([0, 0]))[:-2]
     return [head + bytes(pair) for pair in itertools.product(range(256), repeat=2)]
@@ -300,7 +309,7 @@ def positions(call, draw, count):
 
 
 CALLS = {
-    1: ("phred::cap_quality", lambda call, draw, count: one_u16(call)),
+    1: ("phred::cap_quality", lambda call, draw, count: ceilings(call)),
     2: ("caller::clamp_per_base_to_fgbio_short", lambda call, draw, count: one_u16(call)),
     3: ("caller::clamp_combined_error_to_fgbio_short", combined_errors),
     4: ("caller::write_consensus_read_name", read_names),

@@ -312,7 +312,7 @@ fn of_one(draw: &mut Draw) {
         |&i| rust_methylation::is_cpg_context(&reference, i, i % 2 == 0),
     );
     let depths: Vec<u16> = draw.many(INPUTS, |draw| draw.next() as u16);
-    each("cap_quality", &depths, |&n| gedrashiw::phred::cap_quality(n), |&n| DuplexConsensusCaller::cap_quality(i32::from(n)));
+    each("cap_quality", &depths, |&n| gedrashiw::phred::cap_quality(n, 93), |&n| DuplexConsensusCaller::cap_quality(i32::from(n)));
     each("clamp_per_base_to_fgbio_short", &depths, |&n| ours_caller::clamp_per_base_to_fgbio_short(n), |&n| rust_caller::clamp_per_base_to_fgbio_short(n));
     each(
         "clamp_combined_error_to_fgbio_short",

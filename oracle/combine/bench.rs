@@ -1,14 +1,14 @@
 // Both sides on the same molecules: the time of a record, the median of many rounds that take turns. Each side's inputs are made
 // before; ours writes to the same outputs again and again, the Rust makes its record and drops it.
 use super::super::DuplexConsensusCaller;
-use super::case::{Case, Outputs, Read, Strand};
+use super::case::{Case, Outputs};
 use super::draw::Draw;
+use super::encoded::{self, Encoded, EncodedStrand};
 use super::molecules::{Kind, molecule};
 use super::timing::medians;
 use super::{library, rust};
 use crate::vanilla_caller::{SourceRead, VanillaConsensusRead};
-use gedrashiw::bytes::{CountBytes, RecordBytesOut, StrandBytes, duplex_consensus_into, no_call_reason};
-use gedrashiw::methylation::ConversionPattern;
+use gedrashiw::bytes::no_call_reason;
 use std::hint::black_box;
 
 // So many molecules are taken in turn, so that no branch is learnt by heart.
@@ -122,64 +122,16 @@ fn parts() {
     }
 }
 
-// A molecule as bytes: of each strand depths, errors and evidence, and a run of reads; and outputs.
-struct AsBytes {
-    depths: [Vec<u8>; 2],
-    errors: [Vec<u8>; 2],
-    evidence: [Vec<u8>; 2],
-    run: Vec<u8>,
-}
-
-fn as_bytes(case: &Case) -> AsBytes {
-    let numbers = |numbers: &[u16]| numbers.iter().flat_map(|n| n.to_le_bytes()).collect::<Vec<u8>>();
-    let evidence = |s: &Strand| {
-        let at = |i: usize| [&[s.marks[i]][..], &s.unconverted[i].to_le_bytes(), &s.converted[i].to_le_bytes()].concat();
-        (0..s.marks.len()).flat_map(at).collect::<Vec<u8>>()
-    };
-    let read = |r: &Read| {
-        let length = (r.length as u16 + 2).to_le_bytes();
-        [&[0x30][..], &length, &r.flags.to_le_bytes(), &case.bytes[r.offset..r.offset + r.length]].concat()
-    };
-    let strands = [&case.a, &case.b];
-    AsBytes {
-        depths: strands.map(|s| numbers(&s.depths)),
-        errors: strands.map(|s| numbers(&s.errors)),
-        evidence: strands.map(evidence),
-        run: case.reads.iter().flat_map(read).collect(),
-    }
-}
-
-fn strands_of<'a>(case: &'a Case, bytes: &'a AsBytes) -> [StrandBytes<'a>; 2] {
-    let patterns = [ConversionPattern::CToT, ConversionPattern::GToA];
-    [(&case.a, 0), (&case.b, 1)].map(|(s, i)| StrandBytes {
-        bases: &s.bases,
-        quals: &s.quals,
-        counts: CountBytes { depths: &bytes.depths[i], errors: &bytes.errors[i] },
-        annotation: (s.annotation != 0).then_some((patterns[i], &bytes.evidence[i][..])),
-    })
-}
-
 // The call from bytes to bytes, and the call over numbers.
 fn measure_bytes(kind: Kind) -> [f64; 2] {
     let molecules = prepared(kind);
-    let bytes: Vec<AsBytes> = molecules.iter().map(|molecule| as_bytes(&molecule.case)).collect();
-    let n = kind.positions;
-    let (mut bases, mut quals, mut errors, mut first, mut second) = (vec![0; n], vec![0; n], vec![0; 2 * n], vec![0; 9 * n], vec![0; 9 * n]);
-    let mut out = RecordBytesOut {
-        bases: &mut bases,
-        quals: &mut quals,
-        errors: &mut errors,
-        first_evidence: &mut first,
-        second_evidence: &mut second,
-    };
-    let mut numbers = Outputs::filled(&[n; 9]);
+    let bytes: Vec<Encoded> = molecules.iter().map(|molecule| encoded::encoded(&molecule.case)).collect();
+    let mut out = encoded::filled(&bytes[0].room);
+    let mut numbers = Outputs::filled(&[kind.positions; 9]);
     let times = medians(
         || {
-            for (molecule, bytes) in molecules.iter().zip(&bytes) {
-                let (case, bytes) = black_box((&molecule.case, bytes));
-                let [a, b] = strands_of(case, bytes);
-                let list = kind.reads.is_some().then_some(&bytes.run[..]);
-                let _ = black_box(duplex_consensus_into(Some(&a), Some(&b), list, black_box(&mut out)));
+            for molecule in &bytes {
+                black_box(encoded::duplex_consensus(black_box(molecule), black_box(&mut out)));
             }
         },
         || run_ours(&molecules, &mut numbers),
@@ -203,14 +155,13 @@ fn reasons() {
     for (name, annotated) in [("no annotation", false), ("annotated", true)] {
         for positions in [150, 300] {
             let molecules = prepared(Kind { positions, reads: None, annotated });
-            let bytes: Vec<AsBytes> = molecules.iter().map(|molecule| as_bytes(&molecule.case)).collect();
+            let bytes: Vec<Encoded> = molecules.iter().map(|molecule| encoded::encoded(&molecule.case)).collect();
             let at = |turn: usize| (7 * turn) % positions;
             let [of_bytes, of_numbers] = medians(
                 || {
-                    for (turn, (molecule, bytes)) in molecules.iter().zip(&bytes).enumerate() {
-                        let (case, bytes) = black_box((&molecule.case, bytes));
-                        let [a, b] = strands_of(case, bytes);
-                        let _ = black_box(no_call_reason(Some(&a), Some(&b), at(turn)));
+                    for (turn, molecule) in bytes.iter().enumerate() {
+                        let [a, b] = black_box(molecule).strands.each_ref().map(EncodedStrand::lent);
+                        let _ = black_box(no_call_reason(a.as_ref(), b.as_ref(), at(turn)));
                     }
                 },
                 || {

@@ -32,6 +32,8 @@ pub struct Case {
     pub listed: bool,
     pub reads: Vec<Read>,
     pub bytes: Vec<u8>,
+    // 93 where it is held to the Rust, which has no other.
+    pub ceiling: u8,
     pub room: Room,
 }
 
@@ -144,6 +146,6 @@ impl Case {
             reads.push(Read { flags: read.flags, offset: bytes.len(), length: usize::from(base.is_some()) });
             bytes.extend(base);
         }
-        Case { a: strand(&self.a), b: strand(&self.b), listed: self.listed, reads, bytes, room: [2; 9] }
+        Case { a: strand(&self.a), b: strand(&self.b), listed: self.listed, reads, bytes, ceiling: self.ceiling, room: [2; 9] }
     }
 }

@@ -1,7 +1,7 @@
 // The runs: inputs of many kinds, what each must give by the Rust or by the refusal table, and what ours gives.
 use super::case::{Answer, Case, Outputs, Strand};
 use super::draw::{Draw, LETTERS, MARKS, QUALITIES, ROWS};
-use super::{library, rust, table};
+use super::{ceiling, library, rust, table};
 use std::collections::BTreeMap;
 use std::panic::{AssertUnwindSafe, catch_unwind};
 
@@ -54,6 +54,14 @@ fn tell(group: &str, case: &Case) {
     }
 }
 
+// What calls are counted as, and their positions: of strands with annotations, and of strands without.
+pub type Names = [[&'static str; 2]; 2];
+
+const AT_93: Names = [
+    ["combined, with annotations", "positions combined, with annotations"],
+    ["combined, without", "positions combined, without"],
+];
+
 #[derive(Default)]
 pub struct Run {
     counts: BTreeMap<&'static str, u64>,
@@ -64,16 +72,28 @@ pub struct Run {
 }
 
 impl Run {
-    fn count(&mut self, name: &'static str, more: usize) {
+    pub fn count(&mut self, name: &'static str, more: usize) {
         *self.counts.entry(name).or_default() += more as u64;
+    }
+
+    // A refusal by its row, or what else is answered.
+    pub fn count_refusal(&mut self, answer: Answer, otherwise: &'static str) {
+        let name = match answer {
+            Answer::Refused(7) => "refused by row 7",
+            Answer::Refused(8) => "refused by row 8",
+            Answer::Refused(9) => "refused by row 9",
+            Answer::Refused(10) => "refused by row 10",
+            Answer::Refused(12) => "refused by row 12",
+            Answer::Refused(13) => "refused by row 13",
+            Answer::Refused(14) => "refused by row 14",
+            _ => otherwise,
+        };
+        self.count(name, 1);
     }
 
     fn count_answer(&mut self, case: &Case, answer: Answer) {
         match answer {
-            Answer::Refused(row) => {
-                let names = ["refused by row 7", "refused by row 8", "refused by row 9", "refused by row 10", "", "refused by row 12"];
-                return self.count(names[usize::from(row) - 7], 1);
-            }
+            Answer::Refused(_) => return self.count_refusal(answer, "refused by another row"),
             Answer::NoRecord => self.count("records: none", 1),
             Answer::Ab(_) => self.count("records: ab", 1),
             Answer::Ba(_) => self.count("records: ba", 1),
@@ -114,32 +134,34 @@ impl Run {
                 tell(group, case);
             }
         } else if let Answer::Both(n) = answer {
-            self.combined(case, n);
+            let mut must = std::mem::take(&mut self.must);
+            self.combined(AT_93, case, n, &mut must);
+            self.must = must;
         }
     }
 
-    // The calls below the record, on the strands of one that agrees: its outputs by the Rust, but the errors of listed reads, which the
-    // record counts and these calls leave 0.
-    fn combined(&mut self, case: &Case, n: usize) {
+    // The calls below the record, on the strands of one that agrees: the outputs that it must have, but the errors of listed reads, which
+    // the record counts and these calls leave 0.
+    pub fn combined(&mut self, names: Names, case: &Case, n: usize, must: &mut Outputs) {
         if case.listed {
-            self.must.errors[..n].fill(0);
+            must.errors[..n].fill(0);
         }
         let plain = case.a.annotation == 0 && case.b.annotation == 0;
-        for annotated in [true, false] {
+        for (annotated, [calls, positions]) in [true, false].into_iter().zip(names) {
             if !annotated && !plain {
                 continue;
             }
             self.is.fill(&case.room);
             let answer = library::combine_strands(case, annotated, &mut self.is);
-            self.count(if annotated { "combined, with annotations" } else { "combined, without" }, 1);
-            self.count(if annotated { "positions combined, with annotations" } else { "positions combined, without" }, n);
-            if answer != Answer::Both(n) || self.must != self.is {
-                self.wrong(&format!("combined, annotated {annotated}: {answer:?} of {case:?}"));
+            self.count(calls, 1);
+            self.count(positions, n);
+            if answer != Answer::Both(n) || *must != self.is {
+                self.wrong(&format!("{calls}: {answer:?} of {case:?}"));
             }
         }
     }
 
-    fn wrong(&mut self, what: &str) {
+    pub fn wrong(&mut self, what: &str) {
         self.differences += 1;
         self.told += 1;
         if self.told <= 5 {
@@ -174,7 +196,7 @@ impl Run {
                 };
                 let (a, b) = (strand(draw, 0), strand(draw, 1));
                 let room = draw.room(n, annotation[0] != 0, annotation[1] != 0);
-                let mut case = Case { a, b, listed: false, reads: Vec::new(), bytes: Vec::new(), room };
+                let mut case = Case { a, b, listed: false, reads: Vec::new(), bytes: Vec::new(), ceiling: 93, room };
                 self.check("all pairs of bases, no list", &case);
                 case.listed = true;
                 self.check("all pairs of bases, an empty list", &case);
@@ -274,7 +296,7 @@ impl Run {
             let style = draw.below(4);
             let a = draw.strand(n, style);
             let room = draw.room(n, a.annotation != 0, false);
-            let mut case = Case { a, b: Strand::default(), listed: false, reads: Vec::new(), bytes: Vec::new(), room };
+            let mut case = Case { a, b: Strand::default(), listed: false, reads: Vec::new(), bytes: Vec::new(), ceiling: 93, room };
             if draw.chance(4) {
                 for row in [7, 8, 12] {
                     if draw.chance(2) {
@@ -345,11 +367,14 @@ pub fn main(seed: u64, count: usize) -> bool {
     run.single_strands(&mut Draw::new(seed + 3), count / 10);
     run.gate_refusals(&mut Draw::new(seed + 4), count / 10);
     let seen = run.self_test(&mut Draw::new(seed + 5));
+    ceiling::records(&mut run, &mut Draw::new(seed + 6), count / 100);
+    ceiling::faults_of_bytes(&mut run, &mut Draw::new(seed + 7), count / 10);
+    let other_ceilings = ceiling::self_test(&mut Draw::new(seed + 8));
     for (name, count) in &run.counts {
         println!("{name:50} {count:>12}");
     }
-    println!("self-test: with one place changed in each of 9 outputs, {seen} differences");
+    println!("self-test: with one place changed in each of 9 outputs, {seen} differences; with each of 90 ceilings one higher, {other_ceilings}");
     let records = run.counts.iter().filter(|(name, _)| !name.starts_with("positions")).map(|(_, n)| n).sum::<u64>();
     println!("{records} comparisons, {} differences", run.differences);
-    run.differences == 0 && records > 0 && seen == 9
+    run.differences == 0 && records > 0 && seen == 9 && other_ceilings == 90
 }

@@ -195,7 +195,7 @@ impl Draw {
         }
     }
 
-    // An input that no row refuses.
+    // An input that no row refuses, at 93.
     pub fn case(&mut self) -> Case {
         let style = self.below(4);
         let n = self.positions();
@@ -241,7 +241,7 @@ impl Draw {
             reads.extend(vec![Read { flags, offset: usize::MAX, length: 2 }; self.pick(&[1, 1030])]);
         }
         let room = self.room_of(&a, &b);
-        Case { a, b, listed, reads, bytes, room }
+        Case { a, b, listed, reads, bytes, ceiling: 93, room }
     }
 
     // Thresholds near the two strands' largest depths.
@@ -258,7 +258,9 @@ impl Draw {
 }
 
 // The rows that an input can be made to break, and one way to break each.
-pub const ROWS: [u8; 5] = [7, 8, 9, 10, 12];
+pub const ROWS: [u8; 6] = [7, 8, 9, 10, 12, 14];
+
+pub const CEILINGS_OUTSIDE: [u8; 5] = [0, 1, 2, 94, 255];
 
 fn lengthen(strand: &mut Strand, array: usize, n: usize) {
     match array {
@@ -296,6 +298,7 @@ impl Draw {
                 let n = self.pick(&[0, 1, near.saturating_sub(1), near + 1, 1024]);
                 self.some_array(case, n.min(1024));
             }
+            14 => case.ceiling = self.pick(&CEILINGS_OUTSIDE),
             9 => {
                 let read = Read { flags: 0, offset: 0, length: 0 };
                 case.reads.resize(self.pick(&[1025, 1026, 1100]), read);

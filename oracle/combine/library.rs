@@ -3,7 +3,7 @@ use super::case::{Answer, Case, Outputs, Read, Strand};
 use gedrashiw::duplex_caller::depths_have_minimum_reads;
 use gedrashiw::methylation::{ConversionPattern, EvidenceArrays, EvidenceOut};
 use gedrashiw::{
-    ConsensusOut, DuplexConsensusCaller, Kind, NoCallReason, Record, Refusal, SourceRead, SourceReads, VanillaConsensusRead,
+    ConsensusOut, DuplexConsensusCaller, Kind, NoCallReason, Record, Refusal, Settings, SourceRead, SourceReads, VanillaConsensusRead,
 };
 
 #[inline]
@@ -39,12 +39,13 @@ pub fn duplex_consensus(case: &Case, out: &mut Outputs) -> Answer {
 
 #[inline]
 pub fn with_reads(case: &Case, reads: &[SourceRead], out: &mut Outputs) -> Answer {
-    let Case { a, b, listed, bytes, .. } = case;
+    let &Case { ref a, ref b, listed, ref bytes, ceiling, .. } = case;
     let strands = [a, b].map(|s| s.present.then(|| strand(s)));
     let list = listed.then_some(SourceReads { reads, bytes });
     let (mut written, mut first, mut second) = lent(out);
     let [a, b] = strands.each_ref().map(Option::as_ref);
-    match DuplexConsensusCaller::duplex_consensus_into(a, b, list, &mut written, &mut first, &mut second) {
+    let settings = Settings { ceiling };
+    match DuplexConsensusCaller::duplex_consensus_into(settings, a, b, list, &mut written, &mut first, &mut second) {
         Err(refusal) => Answer::Refused(refusal.number()),
         Ok(None) => Answer::NoRecord,
         Ok(Some(Record { kind: Kind::Ab, positions })) => Answer::Ab(positions),
@@ -55,12 +56,12 @@ pub fn with_reads(case: &Case, reads: &[SourceRead], out: &mut Outputs) -> Answe
 
 // Two strands combined, as a caller does who has decided that both are there: with their annotations, or of strands without.
 pub fn combine_strands(case: &Case, annotated: bool, out: &mut Outputs) -> Answer {
-    let (a, b) = (strand(&case.a), strand(&case.b));
+    let (a, b, settings) = (strand(&case.a), strand(&case.b), Settings { ceiling: case.ceiling });
     let (mut written, mut first, mut second) = lent(out);
     let combined = if annotated {
-        DuplexConsensusCaller::combine_strands_annotated_into(&a, &b, case.listed, &mut written, &mut first, &mut second)
+        DuplexConsensusCaller::combine_strands_annotated_into(settings, &a, &b, case.listed, &mut written, &mut first, &mut second)
     } else {
-        DuplexConsensusCaller::combine_strands_into(&a, &b, case.listed, &mut written)
+        DuplexConsensusCaller::combine_strands_into(settings, &a, &b, case.listed, &mut written)
     };
     combined.map_or_else(|refusal| Answer::Refused(refusal.number()), Answer::Both)
 }

@@ -15,6 +15,15 @@ mod library {
 mod rust {
     include!("rust.rs");
 }
+mod written {
+    include!("written.rs");
+}
+mod encoded {
+    include!("encoded.rs");
+}
+mod ceiling {
+    include!("ceiling.rs");
+}
 mod compare {
     include!("compare.rs");
 }

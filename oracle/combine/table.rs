@@ -1,4 +1,4 @@
-// Document 01's refusal table, a second time: which row refuses a call, if any.
+// The refusal table of documents 01 and 02, a second time: which row refuses a call, if any.
 use super::case::{Answer, Case, Room, Strand};
 pub use crate::order::first;
 
@@ -29,10 +29,11 @@ pub fn kind(a: &Strand, b: &Strand) -> Answer {
 }
 
 pub fn duplex_consensus(case: &Case) -> Option<u8> {
-    let Case { a, b, listed, reads, bytes, room } = case;
+    let Case { a, b, listed, reads, bytes, ceiling, room } = case;
     let strands: Vec<&Strand> = [a, b].into_iter().filter(|s| s.present).collect();
     let leaves = |offset: usize, length: usize| offset as u128 + length as u128 > bytes.len() as u128;
     let input = first(&[
+        (14, !(3..=93).contains(ceiling)),
         (7, strands.iter().any(|s| too_long(s))),
         (8, strands.iter().any(|s| ragged(s))),
         (9, *listed && reads.len() > 1024),

@@ -150,6 +150,7 @@ pub fn molecule(bytes: &[u8]) -> Molecule {
             listed: value(LIST).is_some(),
             reads,
             bytes: buffer,
+            ceiling: 93,
             room: [MOST_POSITIONS; 9],
         },
     }

@@ -167,10 +167,10 @@ static void set_room(struct duplex_given *g, size_t positions)
         g->room[k] = positions * out_width[k];
 }
 
-/* Two strands of so many positions: A, quality 30, depth 1, no errors, no annotation. */
+/* Two strands of so many positions: A, quality 30, depth 1, no errors, no annotation; the ceiling 93. */
 static struct duplex_given fresh(size_t a, size_t b)
 {
-    struct duplex_given g = {{{0}}, 0, {reads, 0}, {0}};
+    struct duplex_given g = {{{0}}, 0, HIGHEST_CEILING, {reads, 0}, {0}};
     memset(store, 0, sizeof store);
     for (int s = 0; s < 2; s++) {
         size_t positions = s == 0 ? a : b;

@@ -55,6 +55,32 @@ static void positions_of_document_01(void)
     gives("more room", &g, &wanted);
 }
 
+/* What is written at 93 with the qualities of another ceiling, written out. A strand alone keeps its own at each. */
+static void ceilings(void)
+{
+    static const uint8_t at[] = {3, 60, 92, 93};
+    static const uint8_t quals[4][4] = {{3, 3, 3, 2}, {50, 60, 3, 2}, {50, 92, 3, 2}, {50, 93, 3, 2}};
+    static const uint8_t a_quals[] = {30, 60, 33, 32}, b_quals[] = {20, 60, 30, 30};
+    for (int k = 0; k < 4; k++) {
+        struct duplex_given g = fresh(4, 4);
+        for (size_t i = 0; i < 4; i++) {
+            set_base(0, i, "ACGT"[i], a_quals[i]);
+            set_base(1, i, "ACCC"[i], b_quals[i]);
+        }
+        g.ceiling = at[k];
+        gives("a ceiling", &g, want(BOTH, "ACGN", quals[k], (uint32_t[]){0, 0, 1, 1}));
+        /* The errors are against the unmasked bases, at each ceiling. */
+        read_of(&g, 0x41, "ACCC");
+        read_of(&g, 0x81, "TNGT");
+        gives("a ceiling, reads", &g, want(BOTH, "ACGN", quals[k], (uint32_t[]){1, 0, 1, 1}));
+        g.strand[1].present = 0;
+        gives("a ceiling, A alone", &g, want(A_ALONE, "ACGT", a_quals, (uint32_t[]){0, 0, 0, 0}));
+        g.strand[0].present = 0;
+        static const struct duplex_wanted none;
+        gives("a ceiling, no strands", &g, &none);
+    }
+}
+
 /* P10 and its mirror: the informative strand shows the converted base with quality 30, the other the call's with 40. */
 static void p10(int informative, uint8_t pattern, uint8_t mark)
 {
@@ -353,6 +379,7 @@ static void worked_examples(void)
     reasons_of_records();
     reasons_refused();
     positions_of_document_01();
+    ceilings();
     annotated_examples();
     for (int k = 0; k < 4; k++)
         alone(k & 1, k >> 1);
@@ -421,6 +448,8 @@ static void some_fault(struct duplex_given *g)
     size_t step = once_in(2) || k == 2 * ARRAYS ? 1 : width[k % ARRAYS];
     if (once_in(5))
         g->strand[chance() % 2].pattern = (uint8_t)(2 + chance() % 254);
+    else if (once_in(5))
+        g->ceiling = (uint8_t) "\0\1\2\136\137\377"[chance() % 6];
     else if (k < 2 * ARRAYS && once_in(4))
         in->len = (1025 + chance() % 3) * width[k % ARRAYS];
     else if (k == 2 * ARRAYS && in->len > 0 && once_in(2))
@@ -446,7 +475,7 @@ static void some_room(struct duplex_given *g)
 
 static void by_chance(int cases)
 {
-    static const int rows[] = {7, 8, 9, 12, 13};
+    static const int rows[] = {7, 8, 9, 12, 13, 14};
     start_tally();
     for (int c = 0; c < cases; c++) {
         size_t a = some_length(), b = once_in(2) ? a : some_length();
@@ -454,13 +483,15 @@ static void by_chance(int cases)
         some_strand(&g, 0);
         some_strand(&g, 1);
         if (once_in(2))
+            g.ceiling = (uint8_t)(LOWEST_CEILING + chance() % (HIGHEST_CEILING - LOWEST_CEILING + 1));
+        if (once_in(2))
             some_reads(&g);
         for (uint32_t faults = once_in(5) ? 1 + chance() % 3 : 0; faults > 0; faults--)
             some_fault(&g);
         some_room(&g);
         expected("by chance", &g);
     }
-    all_occurred("by chance", rows, 5);
+    all_occurred("by chance", rows, 6);
     all_reasons_occurred("by chance");
 }
 
@@ -656,6 +687,7 @@ static void add_fault(struct duplex_given *g, uint8_t row, int way)
 {
     static const int first_long[] = {QUALS, BASES, EVIDENCE}, ragged[] = {ERRORS, QUALS, EVIDENCE};
     static const int short_output[] = {ERRORS_OUT, BASES_OUT, B_EVIDENCE_OUT};
+    static const uint8_t outside[] = {LOWEST_CEILING - 1, HIGHEST_CEILING + 1, 0};
     struct strand *one = &g->strand[way % 2], *other = &g->strand[1 - way % 2];
     if (row == 9)
         for (int k = 0; k < 1025; k++)
@@ -666,6 +698,8 @@ static void add_fault(struct duplex_given *g, uint8_t row, int way)
         one->pattern = 2;
     else if (row == 13)
         reads[g->reads.len++] = READ_TAG;
+    else if (row == 14)
+        g->ceiling = outside[way];
     else if (row == 7)
         for (int k = first_long[way]; k < ARRAYS; k++)
             other->of[k].len = 1025 * width[k];
@@ -675,28 +709,50 @@ static void add_fault(struct duplex_given *g, uint8_t row, int way)
         g->room[short_output[way]] -= 1;
 }
 
-/* Every choice of faults: the first in the order 13, 7, 8, 9, 12 is answered. */
+/* Every choice of faults: the first in the order 13, 14, 7, 8, 9, 12 is answered. */
 static void several_faults(void)
 {
-    static const uint8_t order[] = {13, 7, 8, 9, 12}, added[] = {9, 13, 7, 8, 12};
-    for (int faults = 0; faults < 32; faults++)
+    static const uint8_t order[] = {13, 14, 7, 8, 9, 12}, added[] = {9, 13, 7, 8, 12, 14};
+    for (int faults = 0; faults < 64; faults++)
         for (int way = 0; way < 3; way++) {
             struct duplex_given g = sound(4);
             int met[16] = {0}, first = 0;
-            for (int k = 0; k < 5; k++)
+            for (int k = 0; k < 6; k++)
                 met[order[k]] = faults >> k & 1;
-            for (int k = 0; k < 5; k++)
+            for (int k = 0; k < 6; k++)
                 if (met[added[k]])
                     add_fault(&g, added[k], way);
-            while (first < 5 && !met[order[first]])
+            while (first < 6 && !met[order[first]])
                 first++;
-            if (first == 5)
+            if (first == 6)
                 takes("no fault", &g);
             else
                 refuses("several faults", &g, order[first]);
-            /* Of strands that are absent and a list that is none, none of these is a fault. */
+            /* Of strands that are absent and a list that is none, none of these is a fault, but the ceiling. */
             g.strand[0].present = g.strand[1].present = g.listed = 0;
-            takes("several faults, not looked at", &g);
+            if (met[14])
+                refuses("several faults, not looked at but the ceiling", &g, 14);
+            else
+                takes("several faults, not looked at", &g);
+        }
+}
+
+/* Every number as the ceiling, of two strands, of each alone and of none. */
+static void each_ceiling(void)
+{
+    for (int ceiling = 0; ceiling < 256; ceiling++)
+        for (int present = 0; present < 4; present++) {
+            struct duplex_given g = sound(4);
+            set_base(0, 0, 'A', (uint8_t)ceiling);
+            set_base(1, 0, 'A', 0);
+            set_base(0, 1, 'A', 255);
+            g.ceiling = (uint8_t)ceiling;
+            g.strand[0].present = present & 1;
+            g.strand[1].present = present >> 1;
+            if (ceiling >= LOWEST_CEILING && ceiling <= HIGHEST_CEILING)
+                takes("a ceiling within 3 to 93", &g);
+            else
+                refuses("a ceiling outside 3 to 93", &g, 14);
         }
 }
 
@@ -831,6 +887,7 @@ int main(int words, char **word)
     runs();
     output_lengths();
     several_faults();
+    each_ceiling();
     not_looked_at();
     nulls_were_passed("gedrashiw_duplex_consensus", DUPLEX_INPUTS + OUTPUTS, nulls);
     tell_nulls(2 * DUPLEX_INPUTS - 1 + OUTPUTS); /* the reason takes the same, but no run */

@@ -6,7 +6,7 @@
 #include "gedrashiw.h"
 #include "guarded.h"
 
-enum { MOST_NUMBERS = 1030, MOST_BLOCKS = 40, MOST_BLOCK = 32768, MOST_OUTPUTS = 16 };
+enum { MOST_NUMBERS = 1030, MOST_BLOCKS = 40, MOST_BLOCK = 32768, MOST_OUTPUTS = 16, ROWS = GEDRASHIW_CEILING_OUTSIDE + 1 };
 
 struct list {
     size_t n;
@@ -88,7 +88,7 @@ static inline void expect(int k, int width, const struct list *l)
  * pointer, a bit each. */
 struct seen {
     const char *name;
-    long of[14];
+    long of[ROWS];
     int arrays;
     uint64_t nulls;
 };
@@ -137,12 +137,12 @@ static inline void saw(const char *name, uint8_t refused)
 /* An entry was expected to answer with each of its rows, and without refusal, and with no other row. */
 static inline void rows(const char *name, const char *of)
 {
-    int wanted[14] = {1};
+    int wanted[ROWS] = {1};
     for (const char *at = of; *at != 0; at += strspn(at, " "))
         wanted[strtol(at, (char **)&at, 10)] = 1;
     for (struct seen *s = all_seen; s->name != NULL; s++)
         if (strcmp(s->name, name) == 0)
-            for (int row = 0; row < 14; row++)
+            for (int row = 0; row < ROWS; row++)
                 if ((s->of[row] > 0) != wanted[row]) {
                     failures++;
                     printf("%s: row %d was expected %ld times\n", name, row, s->of[row]);
@@ -182,6 +182,13 @@ static inline size_t some_room(size_t needed)
 static inline uint8_t some_choice(void)
 {
     return once_in(25) ? (uint8_t)(3 + chance() % 253) : (uint8_t)(chance() % 3);
+}
+
+/* A ceiling, most often from 3 to 93. */
+static inline uint8_t some_ceiling(void)
+{
+    static const uint8_t limits[] = {0, 1, 2, 3, 60, 92, 93, 93, 93, 94, 255};
+    return once_in(8) ? limits[chance() % sizeof limits] : (uint8_t)(GEDRASHIW_MIN_CEILING + chance() % 91);
 }
 
 static inline uint8_t some_answer(void) /* no, yes, or another number that is yes */

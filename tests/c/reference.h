@@ -7,7 +7,7 @@
 
 #include <string.h>
 
-enum { MOST_POSITIONS = 1024, MOST_READS = 1024, CAP = 32767 };
+enum { MOST_POSITIONS = 1024, MOST_READS = 1024, CAP = 32767, LOWEST_CEILING = 3, HIGHEST_CEILING = 93 };
 
 struct array {
     const uint8_t *at;
@@ -141,7 +141,7 @@ struct strand {
 
 struct duplex_given {
     struct strand strand[2];
-    uint8_t listed;
+    uint8_t listed, ceiling;
     struct array reads;
     size_t room[OUTPUTS];
 };
@@ -209,7 +209,19 @@ static inline int duplex_broken(const struct duplex_given *g)
     return g->listed && reads_in(g->reads) < 0;
 }
 
-/* Rows 13, 7, 8 and 9, over all that is given. */
+/* Row 14: request 102 of document 02. */
+static inline int ceiling_outside(uint8_t ceiling)
+{
+    return ceiling < LOWEST_CEILING || ceiling > HIGHEST_CEILING;
+}
+
+/* A sum of qualities, or a difference, held to 2 and a ceiling. */
+static inline int held(int qual, uint8_t ceiling)
+{
+    return qual < 2 ? 2 : qual > ceiling ? ceiling : qual;
+}
+
+/* Rows 13, 14, 7, 8 and 9, over all that is given. */
 static inline uint8_t inputs_refused(const struct duplex_given *g)
 {
     int too_long = 0, ragged = 0;
@@ -221,6 +233,8 @@ static inline uint8_t inputs_refused(const struct duplex_given *g)
             }
     if (duplex_broken(g))
         return 13;
+    if (ceiling_outside(g->ceiling))
+        return 14;
     return too_long ? 7 : ragged ? 8 : g->listed && reads_in(g->reads) > MOST_READS ? 9 : 0;
 }
 
@@ -261,7 +275,7 @@ struct position {
     int qual;
 };
 
-static inline struct position position_at(const struct strand *s, size_t i)
+static inline struct position position_at(const struct strand *s, size_t i, uint8_t ceiling)
 {
     uint8_t a = s[0].of[BASES].at[i], b = s[1].of[BASES].at[i];
     int aq = s[0].of[QUALS].at[i], bq = s[1].of[QUALS].at[i];
@@ -279,7 +293,7 @@ static inline struct position position_at(const struct strand *s, size_t i)
         p.base = aq > bq ? a : b;
         p.qual = aq > bq ? aq - bq : bq - aq;
     }
-    p.qual = p.qual < 2 ? 2 : p.qual > 93 ? 93 : p.qual;
+    p.qual = held(p.qual, ceiling);
     return p;
 }
 
@@ -324,7 +338,7 @@ static inline void write_both(const struct duplex_given *g, struct duplex_wanted
 {
     const struct strand *s = g->strand;
     for (size_t i = 0; i < w->positions; i++) {
-        struct position p = position_at(s, i);
+        struct position p = position_at(s, i, g->ceiling);
         int masked = s[0].of[BASES].at[i] == 'N' || s[1].of[BASES].at[i] == 'N' || p.qual == 2;
         long e = g->listed ? errors_of_reads(g->reads, i, &p) : errors_estimated(s, i, &p);
         w->out[BASES_OUT][i] = masked ? 'N' : p.base;
@@ -385,14 +399,15 @@ static inline void duplex_expected(const struct duplex_given *g, struct duplex_w
 static inline struct gedrashiw_duplex_record duplex_call(const struct duplex_given *g, uint8_t *const *out)
 {
     const struct strand *a = &g->strand[0], *b = &g->strand[1];
+    struct gedrashiw_told_encoded_molecule molecule = {
+        {a->present, a->annotated, a->pattern}, {b->present, b->annotated, b->pattern}, g->listed, {g->ceiling}};
     return gedrashiw_duplex_consensus(
-        a->present, a->annotated, a->pattern, a->of[BASES].at, a->of[BASES].len, a->of[QUALS].at, a->of[QUALS].len,
-        a->of[DEPTHS].at, a->of[DEPTHS].len, a->of[ERRORS].at, a->of[ERRORS].len, a->of[EVIDENCE].at, a->of[EVIDENCE].len,
-        b->present, b->annotated, b->pattern, b->of[BASES].at, b->of[BASES].len, b->of[QUALS].at, b->of[QUALS].len,
-        b->of[DEPTHS].at, b->of[DEPTHS].len, b->of[ERRORS].at, b->of[ERRORS].len, b->of[EVIDENCE].at, b->of[EVIDENCE].len,
-        g->listed, g->reads.at, g->reads.len, out[BASES_OUT], g->room[BASES_OUT], out[QUALS_OUT], g->room[QUALS_OUT],
-        out[ERRORS_OUT], g->room[ERRORS_OUT], out[A_EVIDENCE_OUT], g->room[A_EVIDENCE_OUT], out[B_EVIDENCE_OUT],
-        g->room[B_EVIDENCE_OUT]);
+        molecule, a->of[BASES].at, a->of[BASES].len, a->of[QUALS].at, a->of[QUALS].len, a->of[DEPTHS].at, a->of[DEPTHS].len,
+        a->of[ERRORS].at, a->of[ERRORS].len, a->of[EVIDENCE].at, a->of[EVIDENCE].len, b->of[BASES].at, b->of[BASES].len,
+        b->of[QUALS].at, b->of[QUALS].len, b->of[DEPTHS].at, b->of[DEPTHS].len, b->of[ERRORS].at, b->of[ERRORS].len,
+        b->of[EVIDENCE].at, b->of[EVIDENCE].len, g->reads.at, g->reads.len, out[BASES_OUT], g->room[BASES_OUT], out[QUALS_OUT],
+        g->room[QUALS_OUT], out[ERRORS_OUT], g->room[ERRORS_OUT], out[A_EVIDENCE_OUT], g->room[A_EVIDENCE_OUT],
+        out[B_EVIDENCE_OUT], g->room[B_EVIDENCE_OUT]);
 }
 
 /* ---- why a position shows N: request 101 of document 02, from its words; of the combination above only the call is asked */
@@ -415,12 +430,13 @@ static inline uint8_t why_of_two(const struct strand *s, size_t i)
     return aq + bq <= 2 ? GEDRASHIW_REASON_LOW_SUM : GEDRASHIW_REASON_CALLED;
 }
 
-/* Reads play no part, broken or not, nor do outputs. */
+/* Reads play no part, broken or not, nor do outputs, nor a ceiling. */
 static inline struct gedrashiw_reason reason_expected(const struct duplex_given *g, size_t position)
 {
-    struct duplex_given without_reads = *g;
-    without_reads.listed = 0;
-    struct gedrashiw_reason r = {inputs_refused(&without_reads), GEDRASHIW_REASON_REFUSED};
+    struct duplex_given strands = *g;
+    strands.listed = 0;
+    strands.ceiling = HIGHEST_CEILING;
+    struct gedrashiw_reason r = {inputs_refused(&strands), GEDRASHIW_REASON_REFUSED};
     size_t positions;
     if (r.refused != 0)
         return r;

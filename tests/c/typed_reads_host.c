@@ -378,16 +378,23 @@ static void try_rate(void)
     same("rate_bits", "rate", gedrashiw_rate_bits(e, d), rate(e, d));
 }
 
-/* The entries over one number of 16 bits, or over its two bytes as bases. */
+static void quality_is(uint32_t score, uint8_t ceiling)
+{
+    uint32_t most = score < ceiling ? score : ceiling;
+    number_is("cap_quality", gedrashiw_cap_quality((uint16_t)score, ceiling), ceiling < 3 || ceiling > 93 ? 14 : 0, most < 2 ? 2 : most);
+}
+
+/* The entries over one number of 16 bits, or over its two bytes: as bases, or as a score and a ceiling. */
 static void of_number(uint32_t n)
 {
-    same("cap_quality", "score", gedrashiw_cap_quality((uint16_t)n), n < 2 ? 2 : n > 93 ? 93 : n);
+    uint8_t x = (uint8_t)n, y = (uint8_t)(n >> 8);
+    quality_is(n, GEDRASHIW_MAX_CEILING);
+    quality_is(y, x);
     same("clamp_per_base", "depth", gedrashiw_clamp_per_base_to_fgbio_short((uint16_t)n), capped(n));
     same("is_paired", "flags", gedrashiw_is_paired((uint16_t)n), n & 1);
     same("is_paired_r1", "flags", gedrashiw_is_paired_r1((uint16_t)n), (n & 0x41) == 0x41);
     same("is_paired_r2", "flags", gedrashiw_is_paired_r2((uint16_t)n), (n & 0x81) == 0x81);
     same("from_read_flags", "flags", gedrashiw_from_read_flags((uint16_t)n), n & 0x80 ? GEDRASHIW_G_TO_A : GEDRASHIW_C_TO_T);
-    uint8_t x = (uint8_t)n, y = (uint8_t)(n >> 8);
     same("is_error", "bases", gedrashiw_is_error(x, y), x != y && x != 'N' && y != 'N');
     uint8_t ct = x >= 'a' && x <= 'z' ? (uint8_t)(x - 32) : x, ga = y >= 'a' && y <= 'z' ? (uint8_t)(y - 32) : y;
     int c = ga == 'C' && (ct == 'C' || ct == 'T'), g = !c && ct == 'G' && (ga == 'G' || ga == 'A');
@@ -476,6 +483,7 @@ int main(void)
     rows("combined_depths", "7 12");
     rows("depth_range", "7");
     rows("write_consensus_read_name", "12");
+    rows("cap_quality", "14");
     rows("is_enabled", "13");
     rows("written_flags", "13");
     all_nulls();

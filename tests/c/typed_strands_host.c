@@ -5,7 +5,8 @@
 #include "lists.h"
 #include "reference.h"
 
-/* A strand's lists, in the order in which every entry takes them, the number of its annotation standing before the evidence. */
+/* A strand's lists, in the order in which every entry takes them; entries that take numbers one by one have that of its annotation before
+ * the evidence. */
 enum { T_BASES, T_QUALS, T_DEPTHS, T_ERRORS, T_MARKS, T_UNCONVERTED, T_CONVERTED, T_LISTS };
 struct typed {
     uint8_t present, annotation;
@@ -17,6 +18,7 @@ static struct typed strands[2];
 #define STRAND(s) \
     IN8((s).of[T_BASES]), IN8((s).of[T_QUALS]), IN16((s).of[T_DEPTHS]), IN16((s).of[T_ERRORS]), (s).annotation, \
         IN8((s).of[T_MARKS]), IN32((s).of[T_UNCONVERTED]), IN32((s).of[T_CONVERTED])
+#define ARRAYS_OF(s) PLAIN_STRAND(s), IN8((s).of[T_MARKS]), IN32((s).of[T_UNCONVERTED]), IN32((s).of[T_CONVERTED])
 #define PLAIN_STRAND(s) IN8((s).of[T_BASES]), IN8((s).of[T_QUALS]), IN16((s).of[T_DEPTHS]), IN16((s).of[T_ERRORS])
 
 static void some_strand(struct typed *t, size_t n)
@@ -147,6 +149,7 @@ static void try_combine(int annotated)
 {
     size_t a = some_length();
     uint8_t listed = some_answer();
+    struct gedrashiw_settings settings = {some_ceiling()};
     some_strand(&strands[0], a);
     some_strand(&strands[1], once_in(2) ? a : some_length());
     for (int k = 0; k < 2 && !annotated; k++)
@@ -154,11 +157,13 @@ static void try_combine(int annotated)
     uint8_t refused = 0;
     for (int k = 0; k < 2; k++)
         refused = either(refused, strand_refused(&strands[k], strands[k].annotation != 0));
+    if (ceiling_outside(settings.ceiling))
+        refused = 14;
     if (strands[0].annotation > 2 || strands[1].annotation > 2)
         refused = 13;
     memset(&wanted, 0, sizeof wanted);
     if (refused == 0) {
-        given = (struct duplex_given){.listed = listed, .reads = {NULL, 0}};
+        given = (struct duplex_given){.listed = listed, .ceiling = settings.ceiling, .reads = {NULL, 0}};
         for (int k = 0; k < 2; k++)
             as_bytes(&strands[k], k, &given.strand[k]);
         size_t b = strands[1].of[T_BASES].n;
@@ -169,16 +174,17 @@ static void try_combine(int annotated)
     some_rooms(wanted.positions);
     int outputs = annotated ? T_OUTPUTS : T_FIRST_EVIDENCE;
     refused = refused ? refused : room_refused(outputs);
+    struct gedrashiw_told_strands told = {strands[0].annotation, strands[1].annotation, listed, settings};
     EVERY_PLACE {
         if (annotated)
             count_is("combine_strands_annotated",
-                     gedrashiw_combine_strands_annotated(STRAND(strands[0]), STRAND(strands[1]), listed, RECORD_OUT,
+                     gedrashiw_combine_strands_annotated(told, ARRAYS_OF(strands[0]), ARRAYS_OF(strands[1]), RECORD_OUT,
                                                          EVIDENCE_OUT(T_FIRST_EVIDENCE), EVIDENCE_OUT(T_SECOND_EVIDENCE)),
                      refused, wanted.positions, outputs);
         else
             count_is("combine_strands",
-                     gedrashiw_combine_strands(PLAIN_STRAND(strands[0]), PLAIN_STRAND(strands[1]), listed, RECORD_OUT), refused,
-                     wanted.positions, outputs);
+                     gedrashiw_combine_strands(listed, settings, PLAIN_STRAND(strands[0]), PLAIN_STRAND(strands[1]), RECORD_OUT),
+                     refused, wanted.positions, outputs);
     }
 }
 
@@ -240,10 +246,42 @@ static struct array run_of(size_t n)
     return (struct array){run, (size_t)(to - run)};
 }
 
+/* What the record must be of what is given, where no input is refused. */
+static void reckon(size_t n, uint8_t listed, uint8_t ceiling, uint8_t refused)
+{
+    memset(&wanted, 0, sizeof wanted);
+    if (refused == 0) {
+        given = (struct duplex_given){.listed = listed, .ceiling = ceiling, .reads = run_of(listed ? n : 0)};
+        for (int k = 0; k < 2; k++)
+            if (strands[k].present)
+                as_bytes(&strands[k], k, &given.strand[k]);
+        for (int k = 0; k < OUTPUTS; k++)
+            given.room[k] = 9 * MOST_POSITIONS;
+        duplex_expected(&given, &wanted);
+    }
+    wanted_lists(&wanted, wanted.written[A_EVIDENCE_OUT] > 0, wanted.written[B_EVIDENCE_OUT] > 0);
+}
+
+static void consensus_is(size_t n, uint8_t listed, uint8_t ceiling, uint8_t refused)
+{
+    struct gedrashiw_told_molecule molecule = {
+        {strands[0].present, strands[0].annotation}, {strands[1].present, strands[1].annotation}, listed, {ceiling}};
+    EVERY_PLACE {
+        struct gedrashiw_duplex_record r = gedrashiw_duplex_consensus_typed(
+            molecule, ARRAYS_OF(strands[0]), ARRAYS_OF(strands[1]),
+            (const struct gedrashiw_source_read *)lent_parts(reads, n * sizeof *reads), n, IN8(bytes), RECORD_OUT,
+            EVIDENCE_OUT(T_FIRST_EVIDENCE), EVIDENCE_OUT(T_SECOND_EVIDENCE));
+        same("duplex_consensus_typed", "refused", r.refused, refused);
+        same("duplex_consensus_typed", "kind", r.kind, refused ? 0 : wanted.kind);
+        same("duplex_consensus_typed", "positions", r.positions, refused ? 0 : wanted.positions);
+        outputs_are("duplex_consensus_typed", refused, T_OUTPUTS);
+    }
+}
+
 static void try_consensus(void)
 {
     size_t a = some_length(), n = some_length();
-    uint8_t listed = some_answer();
+    uint8_t listed = some_answer(), ceiling = some_ceiling();
     some_strand(&strands[0], a);
     some_strand(&strands[1], once_in(2) ? a : some_length());
     int leaves = some_reads(n), wrong = 0;
@@ -253,31 +291,15 @@ static void try_consensus(void)
             wrong |= strands[k].annotation > 2;
             refused = either(refused, strand_refused(&strands[k], strands[k].annotation != 0));
         }
-    refused = wrong ? 13 : refused ? refused : listed && n > MOST_READS ? 9 : listed && leaves ? 10 : 0;
-    memset(&wanted, 0, sizeof wanted);
-    if (refused == 0) {
-        given = (struct duplex_given){.listed = listed, .reads = run_of(listed ? n : 0)};
-        for (int k = 0; k < 2; k++)
-            if (strands[k].present)
-                as_bytes(&strands[k], k, &given.strand[k]);
-        for (int k = 0; k < OUTPUTS; k++)
-            given.room[k] = 9 * MOST_POSITIONS;
-        duplex_expected(&given, &wanted);
-    }
-    int first = wanted.written[A_EVIDENCE_OUT] > 0, second = wanted.written[B_EVIDENCE_OUT] > 0;
-    wanted_lists(&wanted, first, second);
+    refused = wrong                      ? 13
+              : ceiling_outside(ceiling) ? 14
+              : refused                  ? refused
+              : listed && n > MOST_READS ? 9
+              : listed && leaves         ? 10
+                                         : 0;
+    reckon(n, listed, ceiling, refused);
     some_rooms(wanted.positions);
-    refused = refused ? refused : room_refused(T_OUTPUTS);
-    EVERY_PLACE {
-        struct gedrashiw_duplex_record r = gedrashiw_duplex_consensus_typed(
-            strands[0].present, STRAND(strands[0]), strands[1].present, STRAND(strands[1]), listed,
-            (const struct gedrashiw_source_read *)lent_parts(reads, n * sizeof *reads), n, IN8(bytes), RECORD_OUT,
-            EVIDENCE_OUT(T_FIRST_EVIDENCE), EVIDENCE_OUT(T_SECOND_EVIDENCE));
-        same("duplex_consensus_typed", "refused", r.refused, refused);
-        same("duplex_consensus_typed", "kind", r.kind, refused ? 0 : wanted.kind);
-        same("duplex_consensus_typed", "positions", r.positions, refused ? 0 : wanted.positions);
-        outputs_are("duplex_consensus_typed", refused, T_OUTPUTS);
-    }
+    consensus_is(n, listed, ceiling, refused ? refused : room_refused(T_OUTPUTS));
 }
 
 /* ---- why a position shows N */
@@ -396,15 +418,63 @@ static void one_round(void)
 }
 
 #ifndef FUZZED /* by tests/fuzz */
+/* Every choice of the rows that the record's entry has, in one of two ways: the first in their order is answered. */
+static void several_faults(void)
+{
+    static const uint8_t order[] = {13, 14, 7, 8, 9, 10, 12};
+    enum { FAULTS = sizeof order };
+    for (int faults = 0; faults < 1 << FAULTS; faults++)
+        for (int way = 0; way < 2; way++) {
+            int met[ROWS] = {0};
+            uint8_t refused = 0, ceiling = 60;
+            size_t n = 2;
+            for (int k = FAULTS - 1; k >= 0; k--)
+                if (faults >> k & 1) {
+                    refused = order[k];
+                    met[refused] = 1;
+                }
+            for (int k = 0; k < 2; k++) {
+                do
+                    some_strand(&strands[k], 4);
+                while (strand_refused(&strands[k], 1) != 0);
+                strands[k].present = 1;
+                strands[k].annotation = (uint8_t)(k + 1);
+                strands[k].of[T_DEPTHS].v[way] = 1;
+            }
+            while (some_reads(n))
+                ;
+            reckon(n, 1, ceiling, 0);
+            for (int k = 0; k < T_OUTPUTS; k++)
+                room[k] = written[k].n;
+            struct typed *one = &strands[way], *other = &strands[1 - way];
+            if (met[13])
+                one->annotation = way ? 3 : 255;
+            if (met[14])
+                ceiling = way ? GEDRASHIW_MAX_CEILING + 1 : GEDRASHIW_MIN_CEILING - 1;
+            if (met[7])
+                other->of[way ? T_QUALS : T_CONVERTED].n = MOST_POSITIONS + 1;
+            if (met[8])
+                one->of[way ? T_ERRORS : T_MARKS].n--;
+            if (met[9])
+                n = MOST_READS + 1;
+            if (met[10])
+                reads[1] = (struct gedrashiw_source_read){0x41, way ? SIZE_MAX : 0, way ? 1 : bytes.n + 1};
+            if (met[12])
+                room[way ? T_SECOND_EVIDENCE : 1]--;
+            consensus_is(n, 1, ceiling, refused);
+        }
+}
+
 int main(void)
 {
     make_lent_blocks();
     for (int k = 0; k < 6000; k++)
         one_round();
-    rows("combine_strands", "7 8 12");
-    rows("combine_strands_annotated", "13 7 8 12");
+    several_faults();
+    rows("combine_strands", "14 7 8 12");
+    rows("combine_strands_annotated", "13 14 7 8 12");
     rows("gated_single_strand", "13 7 8 12");
-    rows("duplex_consensus_typed", "13 7 8 9 10 12");
+    rows("duplex_consensus_typed", "13 14 7 8 9 10 12");
     rows("no_call_reason_typed", "13 7 8");
     for (int k = 0; k <= GEDRASHIW_REASON_LOW_CONFIRMING; k++)
         check("no_call_reason_typed", reasons[k] > 0, "a reason did not occur");

@@ -1,6 +1,6 @@
 /* Fuzzes gedrashiw_duplex_consensus, and gedrashiw_no_call_reason on the same strands. The head of an input: what is present, annotated and
- * listed, and the patterns; the positions of each strand, the number of reads and the bases of their longest; a byte of the run to change,
- * and how; a change of each array's length, outputs counted from what is written; and where arrays lie in the second call. */
+ * listed, the patterns and the ceiling; the positions of each strand, the number of reads and the bases of their longest; a byte of the run
+ * to change, and how; a change of each array's length, outputs counted from what is written; and where arrays lie in the second call. */
 #define _DEFAULT_SOURCE
 #include "fuzz.h"
 
@@ -17,6 +17,13 @@ static void set_up(void)
         inputs[k] = block_new(k == 2 * ARRAYS ? MOST * (5 + LONGEST_READ) + 128 : 9 * MOST + 128);
     for (int k = 0; k < OUTPUTS; k++)
         outputs[k] = block_new(9 * MOST + 128);
+}
+
+/* Most often from 3 to 93. */
+static uint8_t taken_ceiling(struct source *s)
+{
+    uint8_t n = take(s);
+    return n < 250 ? n % (HIGHEST_CEILING + 3) : n;
 }
 
 /* A run of so many reads, then cut or made longer. */
@@ -79,7 +86,8 @@ static void plausible(const struct duplex_given *g, struct gedrashiw_duplex_reco
 {
     const struct strand *first = &g->strand[r.kind == B_ALONE ? 1 : 0];
     int wrote = r.refused == 0 && r.kind != NO_RECORD;
-    demand(r.refused == 0 || r.refused == 13 || (r.refused >= 7 && r.refused <= 9) || r.refused == 12, "0, 13, 7, 8, 9 or 12");
+    demand(r.refused == 0 || r.refused >= 12 || (r.refused >= 7 && r.refused <= 9), "0, 7, 8, 9, 12, 13 or 14");
+    demand(r.refused <= 14 && (r.refused == 13 || (r.refused == 14) == ceiling_outside(g->ceiling)), "14 for a ceiling outside, but for 13");
     demand(r.kind <= BOTH && r.positions <= MOST_POSITIONS, "a kind and a length");
     demand(r.refused == 0 || r.kind == NO_RECORD, "no record where refused");
     demand((r.kind == NO_RECORD) == (r.positions == 0), "positions where there is a record");
@@ -90,6 +98,8 @@ static void plausible(const struct duplex_given *g, struct gedrashiw_duplex_reco
         demand(untouched(out[k], written, g->room[k]), "the rest of an output as it was");
         for (size_t i = 0; k >= A_EVIDENCE_OUT && i < written; i += 9)
             demand(out[k][i] <= 1, "marks 0 or 1");
+        for (size_t i = 0; k == QUALS_OUT && r.kind == BOTH && i < written; i++)
+            demand(out[k][i] >= 2 && out[k][i] <= g->ceiling, "qualities of two strands from 2 to the ceiling");
     }
 }
 
@@ -110,6 +120,7 @@ int LLVMFuzzerTestOneInput(const uint8_t *bytes, size_t size)
         positions[k] = take_count(&s, 40, MOST_POSITIONS);
     }
     g.listed = take(&s);
+    g.ceiling = taken_ceiling(&s);
     size_t count = take_count(&s, 12, MOST_READS), longest = take(&s) % (count > 12 ? 4 : LONGEST_READ), place = take_word(&s);
     uint8_t flip = take(&s);
     for (int k = 0; k < DUPLEX_INPUTS + OUTPUTS; k++)

@@ -1,12 +1,13 @@
-//! Document 01's examples of the calls, and document 02's of reasons for an N, one line each: what is asked, and what is answered or left in
-//! the outputs. The file expected has what must be printed.
+//! Document 01's examples of the calls, and document 02's of reasons for an N and of ceilings, one line each: what is asked, and what is
+//! answered or left in the outputs. The file expected has what must be printed.
+mod ceilings;
 mod reasons;
 mod tags;
 mod text;
 
 use gedrashiw::duplex_caller::{Counts, duplex_metrics};
 use gedrashiw::methylation::{ConversionPattern, EvidenceArrays, EvidenceOut};
-use gedrashiw::{DuplexConsensusCaller as Caller, MiPart, ReadType, StrandOut, VanillaConsensusRead, caller, phred};
+use gedrashiw::{DuplexConsensusCaller as Caller, MiPart, ReadType, StrandOut, VanillaConsensusRead, caller};
 use text::{annotation_text, answered, arrays, number, numbers, pattern_text, refused, word};
 
 fn thresholds(min_reads: &[u32]) {
@@ -133,12 +134,6 @@ fn flags() {
     println!();
 }
 
-fn qualities() {
-    print!("qualities 0 2 93 120:");
-    numbers(&[0, 2, 93, 120].map(phred::cap_quality));
-    println!();
-}
-
 fn errors() {
     print!("errors -2 32767 40000:");
     numbers(&[-2, 32767, 40000].map(caller::clamp_combined_error_to_fgbio_short));
@@ -244,9 +239,9 @@ fn main() {
     depths(&[5, 40000, 3]);
     depths(&[]);
     all_paddings();
-    qualities();
     errors();
     all_rates();
     tags::all_tags();
     reasons::all_reasons();
+    ceilings::all_ceilings();
 }

@@ -2,14 +2,15 @@
 use crate::text::{pattern_text, refused};
 use gedrashiw::methylation::ConversionPattern::{self, CToT, GToA};
 use gedrashiw::methylation::EvidenceArrays;
-use gedrashiw::{DuplexConsensusCaller as Caller, VanillaConsensusRead};
+use gedrashiw::{DuplexConsensusCaller as Caller, Settings, VanillaConsensusRead};
 
 /// The answer, and the base where the record has the position.
 fn told(a: Option<&VanillaConsensusRead>, b: Option<&VanillaConsensusRead>, position: usize) {
     match Caller::no_call_reason(a, b, position) {
         Err(refusal) => refused(refusal),
         Ok(reason) => {
-            let record = Caller::duplex_consensus(a, b, None).expect("what refuses the record refuses the reason");
+            let record =
+                Caller::duplex_consensus(Settings::default(), a, b, None).expect("what refuses the record refuses the reason");
             let base = record.and_then(|record| record.bases.get(position).copied());
             print!(" {}, reason {}: {reason}", base.map_or('-', char::from), reason.number());
         }

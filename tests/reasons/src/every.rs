@@ -1,7 +1,7 @@
 //! Every position of two strands: bases, qualities from 0 to 6, annotations and marks. Neighbours in a strand differ in all of them, so
 //! that an answer for another position shows. Nothing is allocated in the loops.
 use crate::document::{CALLED, FIRST, Pattern, Shown, first_of, true_reasons};
-use crate::{Run, told};
+use crate::{Ceilings, Run, told};
 use gedrashiw::bytes::{CountBytes, EVIDENCE_BYTES, StrandBytes, no_call_reason};
 use gedrashiw::methylation::{ConversionPattern, EvidenceArrays, EvidenceOut};
 use gedrashiw::{ConsensusOut, DuplexConsensusCaller as Caller, Kind, Record, VanillaConsensusRead};
@@ -96,6 +96,7 @@ fn shows_n(reason: u8) -> bool {
 
 struct Every {
     run: Run,
+    ceilings: Ceilings,
     until_bytes: u32,
     bases: [u8; N],
     evidence: [[u8; N]; 2],
@@ -104,17 +105,25 @@ struct Every {
 
 impl Every {
     fn new() -> Self {
-        Every { run: Run::default(), until_bytes: BY_BYTES, bases: [0; N], evidence: [[0; N]; 2], counts: [[0; N]; 4] }
+        Every {
+            run: Run::default(),
+            ceilings: Ceilings::default(),
+            until_bytes: BY_BYTES,
+            bases: [0; N],
+            evidence: [[0; N]; 2],
+            counts: [[0; N]; 4],
+        }
     }
 
-    /// The bases that the combination writes.
+    /// The bases that the combination writes, at the next ceiling.
     fn combine(&mut self, a: &VanillaConsensusRead, b: &VanillaConsensusRead) {
         let (mut quals, mut errors) = ([0; N], [0; N]);
         let mut out = ConsensusOut { bases: &mut self.bases, quals: &mut quals, errors: &mut errors };
         let ([of_a, of_b], [au, at, bu, bt]) = (&mut self.evidence, &mut self.counts);
         let mut first = EvidenceOut { informative: of_a, unconverted_count: au, converted_count: at };
         let mut second = EvidenceOut { informative: of_b, unconverted_count: bu, converted_count: bt };
-        let record = Caller::duplex_consensus_into(Some(a), Some(b), None, &mut out, &mut first, &mut second);
+        let record =
+            Caller::duplex_consensus_into(self.ceilings.next(), Some(a), Some(b), None, &mut out, &mut first, &mut second);
         assert_eq!(record, Ok(Some(Record { kind: Kind::Both, positions: N })));
     }
 

@@ -5,15 +5,16 @@
 //! - on molecules by chance: strands of other lengths, absent, uncovered, ragged and overlong, at positions up to the last machine word.
 //!
 //! Each answer is held to the record that the combination writes for the same strands (N exactly where it is one of the seven reasons,
-//! another base exactly where it is called), and to document 02, told a second time (document.rs). The last line counts; the status is 1
-//! where something differs, or where a changed expectation is not seen.
+//! another base exactly where it is called), at the ceilings from 3 to 93 in turn, since no reason takes one; and to document 02, told a
+//! second time (document.rs). The last line counts; the status is 1 where something differs, or where a changed expectation is not seen.
 //!
 //! Its words, if any, are the seed of the molecules by chance and their number.
 mod document;
 mod every;
 mod molecules;
 
-use gedrashiw::{NoCallReason, Refusal};
+use gedrashiw::phred::{MAX_PHRED, MIN_CEILING};
+use gedrashiw::{NoCallReason, Refusal, Settings};
 use std::process::ExitCode;
 
 /// What was compared, and what differed.
@@ -25,6 +26,17 @@ pub struct Run {
     differences: u64,
     /// In a self-test differences are only counted.
     quiet: bool,
+}
+
+/// Every ceiling in turn, again and again.
+#[derive(Default)]
+pub struct Ceilings(u8);
+
+impl Ceilings {
+    fn next(&mut self) -> Settings {
+        self.0 = (self.0 + 1) % (MAX_PHRED - MIN_CEILING + 1);
+        Settings { ceiling: MIN_CEILING + self.0 }
+    }
 }
 
 /// An answer as its number, or the refusal's.

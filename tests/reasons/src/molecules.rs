@@ -2,10 +2,10 @@
 //! The refusals are held to those of the combination too, and every answer to that by bytes.
 use crate::document::{CALLED, MOST_POSITIONS, OUTSIDE, Pattern, SINGLE_STRAND, Strand, reason};
 use crate::every::ours;
-use crate::{Run, told};
+use crate::{Ceilings, Run, told};
 use gedrashiw::bytes::{CountBytes, EVIDENCE_BYTES, RecordBytesOut, StrandBytes};
 use gedrashiw::methylation::{EvidenceArrays, EvidenceOut};
-use gedrashiw::{ConsensusOut, DuplexConsensusCaller as Caller, Kind, Record, VanillaConsensusRead, bytes};
+use gedrashiw::{ConsensusOut, DuplexConsensusCaller as Caller, Kind, Record, Refusal, VanillaConsensusRead, bytes};
 
 /// Numbers by chance, the same for the same seed.
 struct Draw(u64);
@@ -98,8 +98,9 @@ fn as_bytes<'a>(strand: &'a Strand, [depths, errors, evidence]: &'a [Vec<u8>; 3]
     }
 }
 
-/// The outputs of the combination, of as many places as a record may have.
+/// The outputs of the combination, of as many places as a record may have, and the ceilings of its calls.
 struct Outputs {
+    ceilings: Ceilings,
     bases: Vec<u8>,
     quals: Vec<u8>,
     errors: Vec<u16>,
@@ -113,6 +114,7 @@ impl Outputs {
     fn new() -> Self {
         let n = MOST_POSITIONS;
         Outputs {
+            ceilings: Ceilings::default(),
             bases: vec![0; n],
             quals: vec![0; n],
             errors: vec![0; n],
@@ -128,7 +130,8 @@ impl Outputs {
         let ([of_a, of_b], [au, at, bu, bt]) = (&mut self.marks, &mut self.counts);
         let mut first = EvidenceOut { informative: of_a, unconverted_count: au, converted_count: at };
         let mut second = EvidenceOut { informative: of_b, unconverted_count: bu, converted_count: bt };
-        Caller::duplex_consensus_into(a, b, None, &mut out, &mut first, &mut second).map_err(|refusal| refusal.number())
+        let settings = self.ceilings.next();
+        Caller::duplex_consensus_into(settings, a, b, None, &mut out, &mut first, &mut second).map_err(Refusal::number)
     }
 
     /// What refuses the same strands as bytes, if anything does.
@@ -136,7 +139,7 @@ impl Outputs {
         let [first_evidence, second_evidence] = &mut self.evidence;
         let (bases, quals, errors) = (&mut self.bases, &mut self.quals, &mut self.error_bytes);
         let mut out = RecordBytesOut { bases, quals, errors, first_evidence, second_evidence };
-        bytes::duplex_consensus_into(a, b, None, &mut out).err().map(|refusal| refusal.number())
+        bytes::duplex_consensus_into(self.ceilings.next(), a, b, None, &mut out).err().map(Refusal::number)
     }
 
     /// What the record says of a position: a refusal, a reason that is told by the record alone, or whether it shows N.

@@ -5,7 +5,9 @@ mod vector;
 
 use gedrashiw::duplex_caller::{Counts, combined_depths_into, depth_range, duplex_metrics, strand_metrics};
 use gedrashiw::methylation::{ConversionPattern, EvidenceArrays, EvidenceOut, MethylationMode, is_cpg_context};
-use gedrashiw::{DuplexConsensusCaller as Caller, MiPart, ReadType, Refusal, StrandOut, VanillaConsensusRead, caller, phred};
+use gedrashiw::{
+    DuplexConsensusCaller as Caller, MiPart, ReadType, Refusal, Settings, StrandOut, VanillaConsensusRead, caller, phred,
+};
 use line::Line;
 use std::io::{BufReader, BufWriter, Write, stdin, stdout};
 use vector::Vector;
@@ -29,7 +31,7 @@ fn pattern_number(pattern: ConversionPattern) -> u64 {
 /// What is asked of numbers alone.
 fn of_numbers(v: &Vector) -> Result<[u64; 1], Refusal> {
     Ok([match v.call {
-        1 => phred::cap_quality(v.one_u16(0)).into(),
+        1 => phred::cap_quality(v.one_u16(0), v.one_u8(1))?.into(),
         2 => caller::clamp_per_base_to_fgbio_short(v.one_u16(0)) as u64,
         3 => caller::clamp_combined_error_to_fgbio_short(v.one_u32(0) as i32).into(),
         5 => [MethylationMode::Disabled, MethylationMode::EmSeq, MethylationMode::Taps][usize::from(v.one_u8(0).min(2))]
@@ -165,7 +167,7 @@ fn combined_depths(v: &Vector, line: &mut Line) {
 fn position(v: &Vector, line: &mut Line) {
     let (b, n) = (v.u8s(0), v.u16s(1));
     let strand = |at: usize| VanillaConsensusRead::new(&b[at..=at], &b[at + 1..at + 2], &n[at..=at], &n[at + 1..at + 2]);
-    let combined = Caller::combine_strands(&strand(0), &strand(2), false);
+    let combined = Caller::combine_strands(Settings::default(), &strand(0), &strand(2), false);
     line.answer(combined.map(|c| [c.bases[0].into(), c.quals[0].into(), c.errors[0].into()]));
 }
 

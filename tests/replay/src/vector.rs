@@ -2,7 +2,7 @@
 use std::io::Read;
 
 /// How many fields the vector of a call has, by the call's number.
-const FIELDS: [u8; 33] = [0, 1, 1, 1, 3, 1, 1, 1, 3, 1, 1, 1, 1, 1, 1, 1, 3, 1, 4, 1, 1, 1, 1, 16, 16, 1, 2, 2, 2, 7, 4, 3, 2];
+const FIELDS: [u8; 33] = [0, 2, 1, 1, 3, 1, 1, 1, 3, 1, 1, 1, 1, 1, 1, 1, 3, 1, 4, 1, 1, 1, 1, 16, 16, 1, 2, 2, 2, 7, 4, 3, 2];
 
 /// The most bytes of a vector, and the most elements of a field.
 const BYTES: usize = 262_144;
