@@ -207,6 +207,7 @@ impl<'a> VanillaConsensusRead<'a> {
     /// assert_eq!(strand.padded(2, true, b'N', 2), Err(Refusal::BelowLength));
     /// # Ok::<(), gedrashiw::Refusal>(())
     /// ```
+    #[inline]
     pub fn padded(&self, new_length: usize, left: bool, base: u8, qual: u8) -> Result<VanillaConsensusRead<'static>, Refusal> {
         self.owned(new_length, |places| self.pad(new_length, left, base, qual, places))
     }
@@ -223,6 +224,7 @@ impl<'a> VanillaConsensusRead<'a> {
     /// assert_eq!(strand.padded_default(4, false)?.bases, &b"ACGn"[..]);
     /// # Ok::<(), gedrashiw::Refusal>(())
     /// ```
+    #[inline]
     pub fn padded_default(&self, new_length: usize, left: bool) -> Result<VanillaConsensusRead<'static>, Refusal> {
         self.owned(new_length, |places| self.pad_default(new_length, left, places))
     }
@@ -311,6 +313,7 @@ impl StrandOut<'_> {
 }
 
 impl VanillaConsensusRead<'_> {
+    #[inline]
     fn pad(
         &self,
         new_length: usize,
@@ -344,6 +347,7 @@ impl VanillaConsensusRead<'_> {
         told(padded.refused, ConversionPattern::of_number(padded.number as u8))
     }
 
+    #[inline]
     fn pad_default(&self, new_length: usize, left: bool, places: StrandPlaces) -> Result<Option<ConversionPattern>, Refusal> {
         let given = Given::of(self.methylation.as_ref());
         let padded = entries::gedrashiw_padded_default(
