@@ -1,3 +1,4 @@
 pub mod Absent
 pub mod Examples
 pub mod Kind
+pub mod Limit

@@ -3,11 +3,14 @@
 #![tactic(auto)]
 
 ghost use Rattle.std.specs.Prelude.{◌≡◌, is_some};
+ghost use Rattle.refusals.specs.Refusal.{refused};
+ghost use Rattle.refusals.specs.Outcome.{answer};
 ghost use Rattle.duplex_kind.specs.Kind.{given, given_of, given_in, count_in, leaving_in, shorter_present, some_depth, kind_by, long, uneven, kind_given};
+ghost use Rattle.duplex_kind.specs.Limit.{lengths_of, over_in, length_faults};
 
 use lists::front;
-use refusals::{MAX_READS, Refusal, refuse};
-use vanilla_caller::{Lengths, VanillaConsensusRead, strand_ragged, strand_too_long};
+use refusals::{MAX_POSITIONS, MAX_READS, Refusal, refuse};
+use vanilla_caller::{Lengths, VanillaConsensusRead, strand_over, strand_ragged, strand_too_long};
 
 // The record's kind, and how many positions it has.
 #[derive(Clone, Copy, Debug, PartialEq, Eq)]
@@ -110,4 +113,34 @@ pub fn record_kind(
         refuse(list.leaving, Refusal::PartOutside)?;
     }
     Ok(kind_of(a, b))
+}
+
+// The lengths of a strand that may be absent.
+// Inlined, here and below, for speed (duplex_record).
+#[inline(always)]
+pub fn strand_lengths(s: Option<VanillaConsensusRead>) -> Option<Lengths>
+    ensures { result ≡ lengths_of (given_of s.entry) }
+{
+    s.map(|s| s.lengths())
+}
+
+// Whether some array of a strand that is there has over so many positions.
+#[inline(always)]
+fn is_over(limit: usize, s: Option<Lengths>) -> bool
+    ensures { result ≡ over_in limit s }
+{
+    s.is_some_and(|s| strand_over(limit, s))
+}
+
+// What a call by a lab's limit tests of two strands before it makes a record: of their lengths alone. Refuses by 7, 19.
+#[inline(always)]
+pub fn limit_refusal(limit: u16, a: Option<Lengths>, b: Option<Lengths>) -> Result<(), Refusal>
+    ensures { result ≡ answer (refused (length_faults limit a b)) tt }
+{
+    let limit = usize::from(limit);
+    refuse(
+        is_over(MAX_POSITIONS, a) | is_over(MAX_POSITIONS, b),
+        Refusal::TooLong,
+    )?;
+    refuse(is_over(limit, a) | is_over(limit, b), Refusal::OverLimit)
 }

@@ -5,7 +5,7 @@ use Rattle.lists.specs.Output.{put}
 use Rattle.lists.specs.Part.{only_if}
 use Rattle.lists.specs.Table.{tabulate}
 use Rattle.refusals.specs.declared.Refusal.{Refusal}
-use Rattle.refusals.specs.Refusal.{too_long, ragged, too_short}
+use Rattle.refusals.specs.Refusal.{over, ragged, too_short}
 use Rattle.refusals.specs.Outcome.{after}
 use Rattle.methylation.specs.Methylation.{is_annotated}
 use Rattle.methylation.specs.declared.ConversionPattern.{ConversionPattern}
@@ -65,9 +65,12 @@ informative mark = not (eqb mark 0)
 abbrev pub three : EvidenceLengths → List ℕ
 three e = e.marks ∷ e.unconverted ∷ e.converted ∷ []
 
--- Row 7's condition for an annotation.
+-- Row 19's condition for an annotation, by a limit; and row 7's.
+abbrev pub evidence_over : ℕ → EvidenceLengths → Bool
+evidence_over limit e = over limit (three e)
+
 abbrev pub evidence_too_long : EvidenceLengths → Bool
-evidence_too_long e = too_long (three e)
+evidence_too_long e = evidence_over 1024 e
 
 -- Row 8's, for the arrays among themselves, and beside n bases.
 abbrev pub evidence_ragged : EvidenceLengths → Bool

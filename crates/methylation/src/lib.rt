@@ -4,7 +4,7 @@
 
 ghost use Rattle.std.specs.Prelude.{◌≡◌};
 ghost use Rattle.methylation.specs.Choices.{pattern_number, pattern_of, wrong_pattern, pattern_in, mode_of, wrong_mode, mode_in};
-ghost use Rattle.methylation.specs.Arrays.{evidence_arrays, evidence_in, evidence_places, annotated_lengths, evidence_lengths, evidence_of_length, evidence_fronts, evidence_too_long, evidence_ragged, evidence_uneven, evidence_too_short};
+ghost use Rattle.methylation.specs.Arrays.{evidence_arrays, evidence_in, evidence_places, annotated_lengths, evidence_lengths, evidence_of_length, evidence_fronts, evidence_over, evidence_too_long, evidence_ragged, evidence_uneven, evidence_too_short};
 ghost use Rattle.methylation.specs.Outputs.{evidence_out, no_evidence};
 ghost use Rattle.methylation.specs.Annotation.{pattern_held, evidence_held, evidence_seen};
 ghost use Rattle.methylation.specs.Methylation.{is_enabled, pattern_of_flags, pattern_bases, is_cg, is_cpg_context, evidence_if};
@@ -319,11 +319,20 @@ impl<'a> EvidenceSlices<'a> {
     }
 }
 
-// Row 7's condition for an annotation.
+// Row 19's condition for an annotation, by a limit.
+// Inlined, for speed: entries test it of two strands beside row 7's.
+#[inline(always)]
+pub fn evidence_over(limit: usize, e: EvidenceLengths) -> bool
+    ensures { result ≡ evidence_over limit e }
+{
+    (limit < e.marks) | ((limit < e.unconverted) | (limit < e.converted))
+}
+
+// Row 7's.
 pub fn evidence_too_long(e: EvidenceLengths) -> bool
     ensures { result ≡ evidence_too_long e }
 {
-    (MAX_POSITIONS < e.marks) | ((MAX_POSITIONS < e.unconverted) | (MAX_POSITIONS < e.converted))
+    evidence_over(MAX_POSITIONS, e)
 }
 
 // Row 8's condition for an annotation's arrays among themselves.

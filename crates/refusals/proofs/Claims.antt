@@ -7,7 +7,7 @@ use Rattle.std.proofs.Common.{Option, Some, None, Result}
 use lib.Dec.{eqb}
 use borrow.Author.Tests.{eq-eqb, eqb-false}
 use Rattle.refusals.specs.declared.Refusal.{Refusal}
-use Rattle.refusals.specs.declared.Refusal.TheVariants.{Broken, NoThresholds, TooManyThresholds, XyAboveTotal, YxAboveXy, CeilingOutside, TooLong, Ragged, TooManyReads, PartOutside, BelowLength, OutputTooShort, NoMi, NoStrand}
+use Rattle.refusals.specs.declared.Refusal.TheVariants.{Broken, NoThresholds, TooManyThresholds, XyAboveTotal, YxAboveXy, CeilingOutside, TooLong, OverLimit, Ragged, TooManyReads, PartOutside, BelowLength, OutputTooShort, NoMi, NoStrand}
 use Rattle.refusals.specs.Refusal.{Fault, order, number_of, code, of_code, sorted, first, refused, number_or_0}
 use Rattle.refusals.specs.Outcome.{answer, refused_if}
 use Rattle.refusals.specs.Claims.{EachOnce, Clear, NoneLost, NoneLostByNumber, then, chain, InOrder, ListedInOrder, NothingWritten, AllWritten}
@@ -21,6 +21,7 @@ each_once XyAboveTotal = refl
 each_once YxAboveXy = refl
 each_once CeilingOutside = refl
 each_once TooLong = refl
+each_once OverLimit = refl
 each_once Ragged = refl
 each_once TooManyReads = refl
 each_once PartOutside = refl

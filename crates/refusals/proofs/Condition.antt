@@ -1,5 +1,5 @@
 -- What a condition of the table says where it is not met.
---     not_too_long, not_ragged, not_too_short     of each length
+--     not_over, not_too_long, not_ragged, not_too_short     of each length
 --     all_reach                                   the other way round, of row 12
 --     neither, nor_where, both_hold               of tests joined by `||` and `&&`
 -- Assumes nothing.
@@ -9,7 +9,7 @@ use mathlib.Core.List.{List, [], ◌∷◌}
 use Prim.Native.Nat.{ℕ, ◌≤◌}
 use borrow.Author.Tests.{ltb-false, le-ltb, eqb-true, not-false}
 use lib.Dec.{eqb, ltb}
-use Rattle.refusals.specs.Refusal.{any, too_long, ragged, too_short}
+use Rattle.refusals.specs.Refusal.{any, over, too_long, ragged, too_short}
 
 pub neither : (a b : Bool) → (a || b) ≡ false → (a ≡ false) × (b ≡ false)
 neither true b e = absurd (true≢false e)
@@ -37,8 +37,11 @@ any_false p P so (x ∷ (y ∷ ys)) e =
     let (here, later) = neither (p x) (any p (y ∷ ys)) e in
     (so x here, any_false p P so (y ∷ ys) later)
 
+pub not_over : (limit : ℕ) (xs : List ℕ) → over limit xs ≡ false → Every (λ x. x ≤ limit) xs
+not_over limit = any_false (λ x. ltb limit x) (λ x. x ≤ limit) (λ x e. ltb-false limit x e)
+
 pub not_too_long : (xs : List ℕ) → too_long xs ≡ false → Every (λ x. x ≤ 1024) xs
-not_too_long = any_false (λ x. ltb 1024 x) (λ x. x ≤ 1024) (λ x e. ltb-false 1024 x e)
+not_too_long = not_over 1024
 
 pub not_ragged : (n : ℕ) (xs : List ℕ) → ragged (n ∷ xs) ≡ false → Every (λ x. x ≡ n) xs
 not_ragged n = any_false (λ x. not (eqb x n)) (λ x. x ≡ n) (λ x e. eqb-true x n (not-false (eqb x n) e))

@@ -12,7 +12,7 @@ use lib.Dec.{T, eqb}
 use borrow.Author.Tests.{eqb-true}
 use Rattle.std.proofs.Common.{Option, Some, None}
 use Rattle.refusals.specs.declared.Refusal.{Refusal}
-use Rattle.refusals.specs.declared.Refusal.TheVariants.{Broken, NoThresholds, TooManyThresholds, XyAboveTotal, YxAboveXy, CeilingOutside, TooLong, Ragged, TooManyReads, PartOutside, BelowLength, OutputTooShort, NoMi, NoStrand}
+use Rattle.refusals.specs.declared.Refusal.TheVariants.{Broken, NoThresholds, TooManyThresholds, XyAboveTotal, YxAboveXy, CeilingOutside, TooLong, OverLimit, Ragged, TooManyReads, PartOutside, BelowLength, OutputTooShort, NoMi, NoStrand}
 use Rattle.refusals.specs.Refusal.{Fault, order, code, of_code, of_row, sorted, first, refused}
 use Rattle.refusals.specs.Outcome.{or_later}
 use Rattle.refusals.specs.Claims.{NumberedFrom1, Clear}
@@ -25,6 +25,7 @@ numbered_from_1 XyAboveTotal = refl
 numbered_from_1 YxAboveXy = refl
 numbered_from_1 CeilingOutside = refl
 numbered_from_1 TooLong = refl
+numbered_from_1 OverLimit = refl
 numbered_from_1 Ragged = refl
 numbered_from_1 TooManyReads = refl
 numbered_from_1 PartOutside = refl
@@ -46,6 +47,7 @@ in_the_order XyAboveTotal = tt
 in_the_order YxAboveXy = tt
 in_the_order CeilingOutside = tt
 in_the_order TooLong = tt
+in_the_order OverLimit = tt
 in_the_order Ragged = tt
 in_the_order TooManyReads = tt
 in_the_order PartOutside = tt

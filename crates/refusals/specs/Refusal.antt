@@ -1,7 +1,7 @@
 -- The refusal table of documents 01 and 02, and the order of its rows in every call.
 use Rattle.std.specs.Prelude.{ℕ, ◌≤◌, Bool, false, cond, not, ◌||◌, Option, Some, None, List, [], ◌∷◌, ◌++◌, eqb, ltb, length}
 use Rattle.refusals.specs.declared.Refusal.{Refusal}
-use Rattle.refusals.specs.declared.Refusal.TheVariants.{Broken, NoThresholds, TooManyThresholds, XyAboveTotal, YxAboveXy, CeilingOutside, TooLong, Ragged, TooManyReads, PartOutside, BelowLength, OutputTooShort, NoMi, NoStrand}
+use Rattle.refusals.specs.declared.Refusal.TheVariants.{Broken, NoThresholds, TooManyThresholds, XyAboveTotal, YxAboveXy, CeilingOutside, TooLong, OverLimit, Ragged, TooManyReads, PartOutside, BelowLength, OutputTooShort, NoMi, NoStrand}
 
 -- A row of the table is a value of the enum of src/lib.rt. It has no others, so that a condition cannot have a row which the order
 -- leaves out.
@@ -21,6 +21,7 @@ number_of OutputTooShort = 12
 number_of NoMi = 5
 number_of NoStrand = 6
 number_of CeilingOutside = 14
+number_of OverLimit = 19
 
 -- Which row it is, as a number: the one that it answers. A row that answers a number at a second place of the order needs another
 -- one here.
@@ -47,6 +48,7 @@ order =
     ∷ YxAboveXy  -- third threshold above second
     ∷ CeilingOutside  -- the ceiling is outside 3 to 93
     ∷ TooLong  -- over 1,024 positions
+    ∷ OverLimit  -- up to 1,024 positions, and over a lab's limit
     ∷ Ragged  -- arrays of one strand, or evidence and bases, differ in length
     ∷ TooManyReads  -- over 1,024 reads in one list
     ∷ PartOutside  -- a read's part leaves its byte buffer
@@ -62,9 +64,13 @@ any p [] = false
 any p (x ∷ []) = p x
 any p (x ∷ (y ∷ ys)) = p x || any p (y ∷ ys)
 
--- Row 7's condition, for some lengths.
+-- Row 19's condition, for some lengths by a limit.
+abbrev pub over : ℕ → List ℕ → Bool
+over limit lengths = any (λ n. ltb limit n) lengths
+
+-- Row 7's: the limit of every call.
 abbrev pub too_long : List ℕ → Bool
-too_long lengths = any (λ n. ltb 1024 n) lengths
+too_long lengths = over 1024 lengths
 
 -- Row 9's condition, for the numbers of reads of some lists.
 abbrev pub too_many : List ℕ → Bool

@@ -37,6 +37,8 @@ pub enum Refusal {
     Broken = 13,
     // The ceiling of qualities that a lab chooses is outside 3 to 93.
     CeilingOutside = 14,
+    // An array of a strand is over the limit that a lab chooses, which may be below MAX_POSITIONS.
+    OverLimit = 19,
 }
 
 impl Refusal {

@@ -2,10 +2,10 @@
 use Rattle.std.specs.Prelude.{ℕ, ◌≡◌, Bool, false, cond, ◌||◌, Option, None, List, [], ◌∷◌, eqb, length}
 use Rattle.std.specs.Option.{option_map_or}
 use Rattle.refusals.specs.declared.Refusal.{Refusal}
-use Rattle.refusals.specs.Refusal.{too_long, ragged, too_short}
+use Rattle.refusals.specs.Refusal.{over, ragged, too_short}
 use Rattle.refusals.specs.Outcome.{after}
 use Rattle.methylation.specs.Annotation.{pattern_held, evidence_held, evidence_seen}
-use Rattle.methylation.specs.Arrays.{EvidenceArrays, evidence_arrays, annotated_lengths, evidence_too_long, evidence_uneven, evidence_too_short, LeavesEvidence}
+use Rattle.methylation.specs.Arrays.{EvidenceArrays, evidence_arrays, annotated_lengths, evidence_over, evidence_uneven, evidence_too_short, LeavesEvidence}
 use Rattle.methylation.specs.declared.ConversionPattern.{ConversionPattern}
 use Rattle.vanilla_caller.specs.declared.Lengths.{Lengths}
 use Rattle.vanilla_caller.specs.declared.VanillaConsensusRead.{VanillaConsensusRead}
@@ -54,9 +54,12 @@ lengths annotation a = record {
 abbrev pub four : Lengths → List ℕ
 four a = a.bases ∷ a.quals ∷ a.depths ∷ a.errors ∷ []
 
--- Row 7's condition for a strand. Evidence counts where there is an annotation.
+-- Row 19's condition for a strand, by a limit; and row 7's. Evidence counts where there is an annotation.
+abbrev pub strand_over : ℕ → Lengths → Bool
+strand_over limit s = over limit (four s) || option_map_or (evidence_over limit) s.evidence false
+
 abbrev pub strand_too_long : Lengths → Bool
-strand_too_long s = too_long (four s) || option_map_or evidence_too_long s.evidence false
+strand_too_long s = strand_over 1024 s
 
 -- Row 8's.
 abbrev pub strand_ragged : Lengths → Bool

@@ -6,11 +6,11 @@ ghost use Rattle.std.specs.Prelude.{◌≡◌, None, []};
 ghost use Rattle.vanilla_caller.specs.Depth.{max_depth, min_depth};
 ghost use Rattle.methylation.specs.Annotation.{evidence_held};
 ghost use Rattle.methylation.specs.Arrays.{evidence_in};
-ghost use Rattle.vanilla_caller.specs.Strand.{arrays, annotation_in, arrays_in, with_evidence, arrays_seen, plain, lengths, mark, strand_too_long, strand_ragged, outputs_too_short};
+ghost use Rattle.vanilla_caller.specs.Strand.{arrays, annotation_in, arrays_in, with_evidence, arrays_seen, plain, lengths, mark, strand_over, strand_too_long, strand_ragged, outputs_too_short};
 
 use methylation::{
     ConversionPattern, EvidenceLengths, EvidenceSlices, MethylationAnnotation, evidence_of,
-    evidence_too_long, evidence_too_short, evidence_uneven, lengths_of,
+    evidence_over, evidence_too_short, evidence_uneven, lengths_of,
 };
 use numbers::{largest, smallest};
 use refusals::{MAX_POSITIONS, Refusal, refuse};
@@ -125,13 +125,21 @@ pub fn min_depth(depths: &[u16]) -> Result<u16, Refusal>
     Ok(smallest(depths))
 }
 
-// Row 7's condition for a strand.
+// Row 19's condition for a strand, by a limit.
+// Inlined, for speed, as methylation's `evidence_over`.
+#[inline(always)]
+pub fn strand_over(limit: usize, s: Lengths) -> bool
+    ensures { result ≡ strand_over limit s }
+{
+    let four = (limit < s.bases) | ((limit < s.quals) | ((limit < s.depths) | (limit < s.errors)));
+    four | s.evidence.is_some_and(|e| evidence_over(limit, e))
+}
+
+// Row 7's.
 pub fn strand_too_long(s: Lengths) -> bool
     ensures { result ≡ strand_too_long s }
 {
-    let four = (MAX_POSITIONS < s.bases)
-        | ((MAX_POSITIONS < s.quals) | ((MAX_POSITIONS < s.depths) | (MAX_POSITIONS < s.errors)));
-    four | s.evidence.is_some_and(evidence_too_long)
+    strand_over(MAX_POSITIONS, s)
 }
 
 // Row 8's condition for a strand.
