@@ -3,9 +3,10 @@
 --     given_by              what is given of a list that there is by a flag
 --     is_listed             whether there is one is the flag
 --     list_by               the record made without a list is that of one that is not there
+--     limit_told            what the call that tests the strands' lengths answers, by the numbers
 --     numbered              the record of the strands as the code has them is that of the numbers
 -- Assumes nothing.
-use mathlib.Core.Path.{◌≡◌, refl, subst}
+use mathlib.Core.Path.{◌≡◌, refl, ap, subst, ◌∙◌}
 use mathlib.Core.Bool.{Bool, true, false, cond, ◌&&◌}
 use mathlib.Core.List.{List, []}
 use Prim.Native.Nat.{ℕ}
@@ -13,16 +14,21 @@ use Rattle.std.proofs.Common.{Option, None, Result, Ok, Err, is_some, length}
 use Rattle.std.specs.Bool.{then_some}
 use Rattle.refusals.specs.declared.Refusal.{Refusal}
 use Rattle.refusals.specs.declared.Refusal.TheVariants.{Broken}
+use Rattle.refusals.specs.Refusal.{refused}
+use Rattle.refusals.specs.Outcome.{answer}
 use Rattle.methylation.specs.declared.ConversionPattern.{ConversionPattern}
 use Rattle.methylation.specs.Choices.{annotation_of, wrong_annotation}
 use Rattle.settings.specs.declared.GivenSettings.{GivenSettings}
 use Rattle.replies.specs.Choices.{yes}
 use Rattle.vanilla_caller.specs.Strand.{Arrays, arrays, arrays_seen}
+use Rattle.vanilla_caller.specs.declared.Lengths.{Lengths}
 use Rattle.duplex_outputs.specs.Outputs.{RecordArrays}
 use Rattle.duplex_strands.specs.Combine.{uncounted}
 use Rattle.duplex_kind.specs.Kind.{Strand, strand, given_of, count_in, leaving_in}
+use Rattle.duplex_kind.specs.Limit.{lengths_of, length_faults}
 use Rattle.duplex_kind.specs.declared.DuplexConsensus.{DuplexConsensus}
 use Rattle.duplex_kind.specs.declared.GivenReads.{GivenReads}
+use Rattle.duplex_kind.proofs.Limit.{lengths_looked_at, same_lengths}
 use Rattle.duplex_reply.specs.Strand.{strand_by, wrong_strand}
 use Rattle.duplex_record.specs.Record.{DuplexAs}
 use Rattle.duplex_record.proofs.Absent.{not_looked_at}
@@ -53,6 +59,28 @@ read_in p m x h = right_by (yes p) (wrong_annotation m) (annotation_of m) x h
 
 abbrev none : Arrays
 none = arrays [] [] [] [] [] [] []
+
+lengths_by : (p v : Bool) (m : Option ConversionPattern) (x : Arrays) {s : Strand} → by p v m x ≡ Ok s → lengths_of s ≡ lengths_of (strand p m x)
+lengths_by true true m x h = absurd cc
+lengths_by true false m x {s} h = let same : s ≡ strand true m x = cc in ap lengths_of same
+lengths_by false v m x {s} h = let same : s ≡ given_of None = cc in ap lengths_of same
+
+-- A strand as the code has it is as long as the one that its numbers tell of.
+as_long : (p m : ℕ) (x : Arrays) {s : Strand} → strand_by p m (arrays_seen (annotation_of m) x) ≡ Ok s → lengths_of s ≡ lengths_of (strand (yes p) (annotation_of m) x)
+as_long p m x h =
+    lengths_by (yes p) (wrong_annotation m) (annotation_of m) (arrays_seen (annotation_of m) x) h
+    ∙ lengths_looked_at (strand (yes p) (annotation_of m) x)
+
+pub limit_told :
+    (lab : GivenSettings) (p m q n : ℕ) (x y : Arrays) {limit : ℕ} {s t : Strand} {a b : Option Lengths} {r : Result (Unit {0}) Refusal}
+    → strand_by p m (arrays_seen (annotation_of m) x) ≡ Ok s
+    → strand_by q n (arrays_seen (annotation_of n) y) ≡ Ok t
+    → r ≡ answer (refused (length_faults limit a b)) tt
+    → limit ≡ lab.limit
+    → a ≡ lengths_of s
+    → b ≡ lengths_of t
+    → r ≡ answer (refused (length_faults lab.limit (lengths_of (strand (yes p) (annotation_of m) x)) (lengths_of (strand (yes q) (annotation_of n) y)))) tt
+limit_told lab p m q n x y e f h limits here there = same_lengths lab.limit _ _ h limits (here ∙ as_long p m x e) (there ∙ as_long q n y f)
 
 -- What is given of a list that there is by a flag.
 pub given_by : (listed : Bool) (reads : SourceReads) → given_in (then_some listed reads) ≡ given_list listed (length reads.reads.now) (any_leaves (length reads.bytes.now) reads.reads.now)

@@ -1,7 +1,7 @@
 -- The duplex record with its source reads, document 01, and what the entry over numbers makes of it.
-use Rattle.std.specs.Prelude.{ℕ, Bool, cond, Option, Some, None, Result, Ok, Err, List, length}
+use Rattle.std.specs.Prelude.{ℕ, Bool, cond, Option, Some, None, Result, Ok, Err, List, ◌++◌, length}
 use Rattle.refusals.specs.declared.Refusal.{Refusal}
-use Rattle.refusals.specs.Refusal.{refused}
+use Rattle.refusals.specs.Refusal.{Fault, refused}
 use Rattle.caller.specs.Short.{short}
 use Rattle.settings.specs.Settings.{told_faults}
 use Rattle.settings.specs.declared.GivenSettings.{GivenSettings}
@@ -12,6 +12,7 @@ use Rattle.duplex_molecule.specs.Molecule.{ct_input}
 use Rattle.duplex_molecule.specs.declared.CtInput.{CtInput}
 use Rattle.duplex_outputs.specs.Outputs.{RecordArrays}
 use Rattle.duplex_kind.specs.Kind.{Strand}
+use Rattle.duplex_kind.specs.Limit.{lengths_of, length_faults}
 use Rattle.duplex_kind.specs.declared.DuplexConsensus.{DuplexConsensus}
 use Rattle.duplex_kind.specs.declared.GivenReads.{GivenReads}
 use Rattle.duplex_kind.specs.declared.DuplexConsensus.TheVariants.{Ab, Ba, Both}
@@ -60,9 +61,13 @@ ConsensusAs lab a b listed reads bytes before now r =
     DuplexAs lab a b listed (length reads) (any_leaves (length bytes) reads)
     (list_errors reads bytes (ct_input a.annotation b.annotation) a.arrays b.arrays) before now r
 
--- What the entry answers and leaves of a molecule that it is told of, with the arrays of its strands: 13 or 14 and nothing, where a
--- number of it refuses; else all that, with the answer as numbers.
+-- The rows that the entry tests before that: of what it is told 13 and 14, of its strands' lengths 7 and 19.
+abbrev pub entry_faults : ToldMolecule → Strand → Strand → List Fault
+entry_faults m a b = told_faults (wrong_molecule m) m.settings ++ length_faults m.settings.limit (lengths_of a) (lengths_of b)
+
+-- What the entry answers and leaves of a molecule that it is told of, with the arrays of its strands: refused by one of these, nothing;
+-- else all that, with the answer as numbers.
 abbrev pub EntryAs : ToldMolecule → Arrays → Arrays → List SourceRead → List ℕ → RecordArrays → RecordArrays → DuplexRecord → Type 0
 EntryAs m a b reads bytes =
-    RefusedOr (refused (told_faults (wrong_molecule m) m.settings)) record_for
+    RefusedOr (refused (entry_faults m (told_strand m.a a) (told_strand m.b b))) record_for
     (ConsensusAs m.settings (told_strand m.a a) (told_strand m.b b) (yes m.listed) reads bytes)

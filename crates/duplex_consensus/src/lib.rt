@@ -10,7 +10,7 @@ ghost use Rattle.duplex_kind.specs.Kind.{given_of};
 ghost use Rattle.source_reads.specs.Arrays.{bases_in, combined_in};
 ghost use Rattle.duplex_consensus.specs.Consensus.{bases_of, combined_of, counted_positions, given_in, EntryAs};
 
-use duplex_kind::{DuplexConsensus, GivenReads};
+use duplex_kind::{DuplexConsensus, GivenReads, limit_refusal, strand_lengths};
 use duplex_molecule::ct_input;
 use duplex_outputs::RecordOutputs;
 use duplex_record::duplex_record;
@@ -82,7 +82,7 @@ fn given_list(list: Option<SourceReads>) -> Option<GivenReads>
 }
 
 // The record of two strands, of one or of none, with the source reads where they are listed. One strand alone goes to the first
-// strand's outputs. Refuses by 13, then 14, 7, 8, 9, 10 whatever the record, then by 12 for what is written.
+// strand's outputs. Refuses by 13, then 14, 7, 19, 8, 9, 10 whatever the record, then by 12 for what is written.
 #[unsafe(no_mangle)]
 pub extern "C" fn gedrashiw_duplex_consensus_typed(
     molecule: ToldMolecule,
@@ -138,6 +138,9 @@ pub extern "C" fn gedrashiw_duplex_consensus_typed(
         Ok(settings) => settings,
         Err(refusal) => return DuplexRecord::from(refusal),
     };
+    if let Err(refusal) = limit_refusal(settings.limit, strand_lengths(a), strand_lengths(b)) {
+        return DuplexRecord::from(refusal);
+    }
     let reads = SourceReads { reads, bytes };
     let list = given_list((molecule.listed != 0).then_some(reads));
     let mut out = RecordOutputs {

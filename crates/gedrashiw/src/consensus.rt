@@ -1,22 +1,23 @@
 // The combination of two strands, and a strand alone. The calls are those of rust_consensus.
-ghost use Rattle.std.specs.Prelude.{None, [], ◌||◌};
+ghost use Rattle.std.specs.Prelude.{◌||◌, Some, None, [], ◌++◌};
 ghost use Rattle.refusals.specs.Refusal.{refused};
 ghost use Rattle.methylation.specs.Choices.{annotation_of, wrong_annotation};
 ghost use Rattle.settings.specs.Settings.{settings_faults, told_faults};
 ghost use Rattle.replies.specs.Choices.{yes};
 ghost use Rattle.replies.specs.Replies.{count_reply, RefusedOr, not_counted, RepliedAs};
-ghost use Rattle.vanilla_caller.specs.Strand.{arrays};
+ghost use Rattle.vanilla_caller.specs.Strand.{arrays, lengths};
 ghost use Rattle.duplex_molecule.specs.declared.CtInput.TheVariants.{Neither};
 ghost use Rattle.duplex_outputs.specs.Outputs.{record_of};
 ghost use Rattle.duplex_strands.specs.Combine.{CombinedAs};
 ghost use Rattle.duplex_molecule.specs.Molecule.{ct_input};
 ghost use Rattle.duplex_single.specs.Single.{SingleAs};
+ghost use Rattle.duplex_kind.specs.Limit.{length_faults};
 
 use replies::Count;
 use rust_consensus::ToldStrands;
 use settings::GivenSettings;
 
-// Combines strands without annotation. Where reads are listed (listed is not 0) the errors are left 0. Refuses by 14, 7, 8, 12.
+// Combines strands without annotation. Where reads are listed (listed is not 0) the errors are left 0. Refuses by 14, 7, 19, 8, 12.
 #[unsafe(no_mangle)]
 pub extern "C" fn gedrashiw_combine_strands(
     listed: u8,
@@ -33,7 +34,10 @@ pub extern "C" fn gedrashiw_combine_strands(
     quals_out: &mut [u8],
     errors_out: &mut [u16],
 ) -> Count
-    ensures { RefusedOr (refused (settings_faults settings)) count_reply
+    ensures { RefusedOr (refused (settings_faults settings ++ length_faults settings.limit
+        (Some (lengths None (arrays a_bases.now a_quals.now a_depths.now a_errors.now [] [] [])))
+        (Some (lengths None (arrays b_bases.now b_quals.now b_depths.now b_errors.now [] [] [])))))
+        count_reply
         (CombinedAs settings Neither None
         (arrays a_bases.now a_quals.now a_depths.now a_errors.now [] [] [])
         None
@@ -49,7 +53,7 @@ pub extern "C" fn gedrashiw_combine_strands(
     )
 }
 
-// Combines strands that may be annotated. Refuses by 13, 14, 7, 8, 12.
+// Combines strands that may be annotated. Refuses by 13, 14, 7, 19, 8, 12.
 #[unsafe(no_mangle)]
 pub extern "C" fn gedrashiw_combine_strands_annotated(
     strands: ToldStrands,
@@ -77,7 +81,10 @@ pub extern "C" fn gedrashiw_combine_strands_annotated(
     b_unconverted_out: &mut [u32],
     b_converted_out: &mut [u32],
 ) -> Count
-    ensures { RefusedOr (refused (told_faults (wrong_annotation strands.a_annotation || wrong_annotation strands.b_annotation) strands.settings)) count_reply
+    ensures { RefusedOr (refused (told_faults (wrong_annotation strands.a_annotation || wrong_annotation strands.b_annotation) strands.settings ++ length_faults strands.settings.limit
+        (Some (lengths (annotation_of strands.a_annotation) (arrays a_bases.now a_quals.now a_depths.now a_errors.now a_marks.now a_unconverted.now a_converted.now)))
+        (Some (lengths (annotation_of strands.b_annotation) (arrays b_bases.now b_quals.now b_depths.now b_errors.now b_marks.now b_unconverted.now b_converted.now)))))
+        count_reply
         (CombinedAs strands.settings (ct_input (annotation_of strands.a_annotation) (annotation_of strands.b_annotation)) (annotation_of strands.a_annotation)
         (arrays a_bases.now a_quals.now a_depths.now a_errors.now a_marks.now a_unconverted.now a_converted.now)
         (annotation_of strands.b_annotation)

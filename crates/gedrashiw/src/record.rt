@@ -7,7 +7,7 @@ use duplex_reply::{DuplexRecord, ToldMolecule};
 use source_reads::SourceRead;
 
 // The record of two strands, of one or of none, with the source reads where they are listed. One strand alone goes to the first
-// strand's outputs. Refuses by 13, then 14, 7, 8, 9, 10 whatever the record, then by 12 for what is written.
+// strand's outputs. Refuses by 13, then 14, 7, 19, 8, 9, 10 whatever the record, then by 12 for what is written.
 #[unsafe(no_mangle)]
 pub extern "C" fn gedrashiw_duplex_consensus_typed(
     molecule: ToldMolecule,

@@ -1,21 +1,23 @@
 // Entry points over numbers as they are: two strands combined, and a strand alone as a record. Uses refusals, methylation, settings, replies,
-// vanilla_caller, duplex_molecule, duplex_outputs, duplex_strands, duplex_annotated and duplex_single.
+// vanilla_caller, duplex_molecule, duplex_outputs, duplex_strands, duplex_annotated, duplex_single and duplex_kind.
 #![tactic(auto)]
 
-ghost use Rattle.std.specs.Prelude.{◌||◌, None, []};
+ghost use Rattle.std.specs.Prelude.{◌||◌, Some, None, [], ◌++◌};
 ghost use Rattle.refusals.specs.Refusal.{refused};
 ghost use Rattle.methylation.specs.Choices.{annotation_of, wrong_annotation};
 ghost use Rattle.settings.specs.Settings.{settings_faults, told_faults};
 ghost use Rattle.replies.specs.Choices.{yes};
 ghost use Rattle.replies.specs.Replies.{count_reply, not_counted, RefusedOr, RepliedAs};
-ghost use Rattle.vanilla_caller.specs.Strand.{arrays};
+ghost use Rattle.vanilla_caller.specs.Strand.{arrays, lengths};
 ghost use Rattle.duplex_molecule.specs.Molecule.{ct_input};
 ghost use Rattle.duplex_molecule.specs.declared.CtInput.TheVariants.{Neither};
 ghost use Rattle.duplex_outputs.specs.Outputs.{record_of};
 ghost use Rattle.duplex_strands.specs.Combine.{CombinedAs};
 ghost use Rattle.duplex_single.specs.Single.{SingleAs};
+ghost use Rattle.duplex_kind.specs.Limit.{length_faults};
 
 use duplex_annotated::combine_strands_annotated;
+use duplex_kind::limit_refusal;
 use duplex_outputs::RecordOutputs;
 use duplex_single::gated_single_strand;
 use duplex_strands::combine_strands;
@@ -35,7 +37,7 @@ pub struct ToldStrands {
     pub settings: GivenSettings,
 }
 
-// Combines strands without annotation. Where reads are listed (listed is not 0) the errors are left 0. Refuses by 14, 7, 8, 12.
+// Combines strands without annotation. Where reads are listed (listed is not 0) the errors are left 0. Refuses by 14, 7, 19, 8, 12.
 #[unsafe(no_mangle)]
 pub extern "C" fn gedrashiw_combine_strands(
     listed: u8,
@@ -52,7 +54,10 @@ pub extern "C" fn gedrashiw_combine_strands(
     quals_out: &mut [u8],
     errors_out: &mut [u16],
 ) -> Count
-    ensures { RefusedOr (refused (settings_faults settings)) count_reply
+    ensures { RefusedOr (refused (settings_faults settings ++ length_faults settings.limit
+        (Some (lengths None (arrays a_bases.now a_quals.now a_depths.now a_errors.now [] [] [])))
+        (Some (lengths None (arrays b_bases.now b_quals.now b_depths.now b_errors.now [] [] [])))))
+        count_reply
         (CombinedAs settings Neither None
         (arrays a_bases.now a_quals.now a_depths.now a_errors.now [] [] [])
         None
@@ -69,6 +74,9 @@ pub extern "C" fn gedrashiw_combine_strands(
     };
     let a = VanillaConsensusRead::new(a_bases, a_quals, a_depths, a_errors);
     let b = VanillaConsensusRead::new(b_bases, b_quals, b_depths, b_errors);
+    if let Err(refusal) = limit_refusal(settings.limit, Some(a.lengths()), Some(b.lengths())) {
+        return Count::from(refusal);
+    }
     let mut out = RecordOutputs {
         bases: bases_out,
         quals: quals_out,
@@ -77,7 +85,7 @@ pub extern "C" fn gedrashiw_combine_strands(
     Count::from(combine_strands(settings, a, b, listed != 0, &mut out))
 }
 
-// Combines strands that may be annotated. Refuses by 13, 14, 7, 8, 12.
+// Combines strands that may be annotated. Refuses by 13, 14, 7, 19, 8, 12.
 #[unsafe(no_mangle)]
 pub extern "C" fn gedrashiw_combine_strands_annotated(
     strands: ToldStrands,
@@ -105,7 +113,10 @@ pub extern "C" fn gedrashiw_combine_strands_annotated(
     b_unconverted_out: &mut [u32],
     b_converted_out: &mut [u32],
 ) -> Count
-    ensures { RefusedOr (refused (told_faults (wrong_annotation strands.a_annotation || wrong_annotation strands.b_annotation) strands.settings)) count_reply
+    ensures { RefusedOr (refused (told_faults (wrong_annotation strands.a_annotation || wrong_annotation strands.b_annotation) strands.settings ++ length_faults strands.settings.limit
+        (Some (lengths (annotation_of strands.a_annotation) (arrays a_bases.now a_quals.now a_depths.now a_errors.now a_marks.now a_unconverted.now a_converted.now)))
+        (Some (lengths (annotation_of strands.b_annotation) (arrays b_bases.now b_quals.now b_depths.now b_errors.now b_marks.now b_unconverted.now b_converted.now)))))
+        count_reply
         (CombinedAs strands.settings (ct_input (annotation_of strands.a_annotation) (annotation_of strands.b_annotation)) (annotation_of strands.a_annotation)
         (arrays a_bases.now a_quals.now a_depths.now a_errors.now a_marks.now a_unconverted.now a_converted.now)
         (annotation_of strands.b_annotation)
@@ -137,6 +148,13 @@ pub extern "C" fn gedrashiw_combine_strands_annotated(
         b_annotation,
         b_evidence,
     );
+    if let Err(refusal) = limit_refusal(
+        strands.settings.limit,
+        Some(a.lengths()),
+        Some(b.lengths()),
+    ) {
+        return Count::from(refusal);
+    }
     let mut out = RecordOutputs {
         bases: bases_out,
         quals: quals_out,
