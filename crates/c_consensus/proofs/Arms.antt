@@ -1,11 +1,11 @@
 -- What the call leaves, by the kind of record that it made.
---     kind_is          the kind and the settings, or what refuses the call for what is given
+--     kind_is          the kind and the settings, or what refuses the call for what is given and for its lengths
 --     none_puts, ab_puts, ba_puts, both_puts     what is written of each kind
 --     made_none, made_ab, made_ba, made_both     what is promised of it
 --     by_seen          the same of strands as far as they are looked at
 -- Assumes nothing.
 use mathlib.Core.Path.{◌≡◌, refl, sym, ap, ap₂, subst, ◌∙◌}
-use mathlib.Core.Bool.{Bool, true, false, cond, ◌&&◌}
+use mathlib.Core.Bool.{Bool, true, false, cond}
 use mathlib.Core.List.{List, [], ◌∷◌}
 use Prim.Native.Nat.{ℕ, ◌/◌, ◌≤◌, min}
 use native.Mathlib.Omega.{arith}
@@ -25,13 +25,12 @@ use Rattle.settings.specs.declared.GivenSettings.{GivenSettings}
 use Rattle.methylation.specs.declared.ConversionPattern.{ConversionPattern}
 use Rattle.byte_numbers.specs.Bytes.{bytes16, all_bytes, words16}
 use Rattle.byte_numbers.specs.Groups.{joined}
-use Rattle.vanilla_caller.specs.Strand.{Arrays, lengths, strand_too_long, annotation_in, arrays_in}
+use Rattle.vanilla_caller.specs.Strand.{Arrays, annotation_in, arrays_in}
 use Rattle.vanilla_caller.specs.declared.VanillaConsensusRead.{VanillaConsensusRead}
 use Rattle.molecule_evidence.specs.Evidence.{evidence_bytes}
-use Rattle.molecule_strand.specs.Rows.{misfit_in, numbers_in, kind_by, kind_read}
+use Rattle.molecule_strand.specs.Rows.{misfit_in, kind_by, kind_read}
 use Rattle.molecule_strand.specs.Strand.{StrandBytes, Numbers, StrandRead, encoded_in, evidence_seen, strand_of}
 use Rattle.molecule_strand.specs.declared.EncodedStrand.{EncodedStrand}
-use Rattle.molecule_strand.proofs.Kind.{same_given, kind_whole}
 use Rattle.molecule_strand.proofs.Strand.{held_seen}
 use Rattle.molecule_fields.specs.Widths.{is_run}
 use Rattle.molecule_reads.specs.Run.{reads_of}
@@ -40,17 +39,19 @@ use Rattle.molecule_consensus.proofs.Bytes.{same_misfit}
 use Rattle.duplex_molecule.specs.Molecule.{ct_input}
 use Rattle.duplex_molecule.specs.declared.CtInput.{CtInput}
 use Rattle.duplex_arrays.specs.Positions.{PositionsAs}
-use Rattle.duplex_kind.specs.Kind.{Given, Strand, strand, positions, strand_faults}
+use Rattle.duplex_kind.specs.Kind.{Strand, strand, positions, strand_faults}
 use Rattle.duplex_kind.specs.declared.DuplexConsensus.{DuplexConsensus}
 use Rattle.duplex_kind.specs.declared.DuplexConsensus.TheVariants.{Ab, Ba, Both}
-use Rattle.duplex_kind.proofs.Kind.{Passes, taken, is_ab, is_ba, is_both}
+use Rattle.duplex_kind.specs.Limit.{lengths_of, over_in}
+use Rattle.duplex_kind.proofs.Limit.{Within}
+use Rattle.duplex_kind.proofs.Kind.{taken, is_ab, is_ba, is_both}
 use Rattle.duplex_consensus.specs.Consensus.{combined_of, counted_positions}
 use Rattle.source_reads.specs.Reads.{counted_errors}
 use Rattle.c_record.specs.Outputs.{RecordBytes, written, written_of, outputs_refused}
 use Rattle.c_record.proofs.Outputs.{Room}
 use Rattle.c_consensus.specs.Consensus.{ConsensusBytesAs}
-use Rattle.c_consensus.specs.Parts.{zero_numbers, strand_read, StrandIs, Settled, both_of, settled, unless_many, with_list, list_errors, errors_left, KeptAs, FitsIn}
-use Rattle.c_consensus.proofs.Rows.{seen_same, kind, of_inputs, listed_is, given_pass}
+use Rattle.c_consensus.specs.Parts.{zero_numbers, strand_read, StrandIs, Settled, both_of, settled, within_limit, unless_many, with_list, list_errors, errors_left, KeptAs, FitsIn}
+use Rattle.c_consensus.proofs.Rows.{seen_same, kind, of_inputs, settled_whole, listed_is, given_pass, given_within}
 use Rattle.c_consensus.proofs.Read.{Lengths, as_long, marks_size, depths_read, whole, strand_whole}
 use Rattle.c_consensus.proofs.Written.{kept_written}
 use Rattle.c_consensus.proofs.Both.{no_longer, positions_written, errors_written}
@@ -75,18 +76,20 @@ abbrev kind_alone : Settled → Result (Option DuplexConsensus) Refusal
 kind_alone (Ok s) = Ok s.0
 kind_alone (Err row) = Err row
 
--- Where neither is refused, the kind is the strands'.
-kind_settled : (tested : Result GivenSettings Refusal) (k : Result (Option DuplexConsensus) Refusal) {x : Option DuplexConsensus} {lab : GivenSettings} → settled tested k ≡ Ok (x, lab) → k ≡ Ok x
-kind_settled (Ok own) (Ok y) e = ap kind_alone e
-kind_settled (Err row) (Ok y) e = absurd cc
-kind_settled tested (Err row) e = by_row (eqb (code row) (code Broken)) tested e
+-- Where nothing is refused, the kind is the strands'.
+kind_settled : (tested : Result GivenSettings Refusal) (within : Result (Unit {0}) Refusal) (k : Result (Option DuplexConsensus) Refusal) {x : Option DuplexConsensus} {lab : GivenSettings} → settled tested within k ≡ Ok (x, lab) → k ≡ Ok x
+kind_settled (Ok own) (Ok passed) (Ok y) e = ap kind_alone e
+kind_settled (Ok own) (Err row) (Ok y) e = absurd cc
+kind_settled (Err row) within (Ok y) e = absurd cc
+kind_settled tested within (Err row) e = by_row (eqb (code row) (code Broken)) tested within e
   where
-    by_row : (broken : Bool) (tested : Result GivenSettings Refusal) {x : Option DuplexConsensus} {lab : GivenSettings} → cond broken (Err Broken) (both_of tested (Err row)) ≡ Ok (x, lab) → Err row ≡ Ok x
-    by_row true tested e = absurd cc
-    by_row false (Ok own) e = absurd cc
-    by_row false (Err other) e = absurd cc
+    by_row : (broken : Bool) (tested : Result GivenSettings Refusal) (within : Result (Unit {0}) Refusal) {x : Option DuplexConsensus} {lab : GivenSettings} → cond broken (Err Broken) (both_of tested within (Err row)) ≡ Ok (x, lab) → Err row ≡ Ok x
+    by_row true tested within e = absurd cc
+    by_row false (Ok own) (Ok passed) e = absurd cc
+    by_row false (Ok own) (Err other) e = absurd cc
+    by_row false (Err other) within e = absurd cc
 
--- A list changes nothing of either.
+-- A list changes nothing of these.
 settled_kept : (listed : Bool) (run : List ℕ) (k : Settled) {x : Option DuplexConsensus} {lab : GivenSettings} → with_list listed run k ≡ Ok (x, lab) → k ≡ Ok (x, lab)
 settled_kept false run k e = e
 settled_kept true run k e = by_run (is_run run) (too_many (length (reads_of run) ∷ [])) k e
@@ -97,17 +100,9 @@ settled_kept true run k e = by_run (is_run run) (too_many (length (reads_of run)
     by_run true true (Ok y) e = absurd cc
     by_run true false (Ok y) e = e
 
-and_false : (p : Bool) {q : Bool} → q ≡ false → (p && q) ≡ false
-and_false true e = e
-and_false false e = refl
-
 -- A strand that passes fits.
-fits : (places : ℕ) (s : StrandBytes) → FitsIn places s → Passes (strand_of s) → Lengths s → length s.bases ≤ places
-unfolding strand_of
-fits places s few p l =
-    let counts : numbers_in s ≡ lengths s.annotation (strand_of s).arrays = ap (λ (g : Given). g.lengths) (same_given s) in
-    let short : strand_too_long (numbers_in s) ≡ false = ap strand_too_long counts ∙ p.not_long in
-    omega (arith, few (and_false s.present short), l.depths)
+fits : (places limit : ℕ) (s : StrandBytes) → FitsIn places limit s → over_in 1024 (lengths_of (strand_of s)) ≡ false → over_in limit (lengths_of (strand_of s)) ≡ false → Lengths s → length s.bases ≤ places
+fits places limit s few long over l = omega (arith, few long over, l.depths)
 
 pub none_puts : (before : RecordBytes) → Puts (record { bases = []; quals = []; errors = bytes16 []; evidence_a = evidence_bytes [] [] []; evidence_b = evidence_bytes [] [] [] }) before before
 unfolding all_bytes evidence_bytes joined put
@@ -146,11 +141,12 @@ same_combined {p} {p'} {q} {q'} {x} {x'} {y} {y'} {m} {m'} e f g h i =
 
 module _
     (lab : GivenSettings) (places : ℕ) (a b : Option EncodedStrand) (listed : Bool) (run : List ℕ)
-    (few_a : FitsIn places (encoded_in a)) (few_b : FitsIn places (encoded_in b))
+    (few_a : FitsIn places lab.limit (encoded_in a)) (few_b : FitsIn places lab.limit (encoded_in b))
     {xa xb : Numbers} (read_a : StrandRead (encoded_in a) (zero_numbers places) xa) (read_b : StrandRead (encoded_in b) (zero_numbers places) xb)
     {ks : Result (Option DuplexConsensus) Refusal} (by_depths : ks ≡ kind_read (encoded_in a) (encoded_in b) xa.depths xb.depths)
     {tested : Result GivenSettings Refusal} (by_test : tested ≡ answer (refused (settings_faults lab)) lab)
-    {r : Settled} (by_list : r ≡ with_list listed run (settled tested ks))
+    {within : Result (Unit {0}) Refusal} (by_lengths : within ≡ within_limit lab.limit (encoded_in a) (encoded_in b))
+    {r : Settled} (by_list : r ≡ with_list listed run (settled tested within ks))
     (before : RecordBytes)
   where
     abbrev A : StrandBytes
@@ -168,13 +164,17 @@ module _
     abbrev count : ℕ
     count = length (reads_of run)
 
-    of_strands : ks ≡ kind_by A B
-    of_strands = by_depths ∙ kind_whole A B xa.depths xb.depths (λ short. depths_read places A read_a (few_a short)) (λ short. depths_read places B read_b (few_b short))
+    -- Depths that were read in part are those of strands that the lengths' rows refuse.
+    of_strands : (t : Result GivenSettings Refusal) → settled t (within_limit lab.limit A B) ks ≡ settled t (within_limit lab.limit A B) (kind_by A B)
+    of_strands t =
+        ap (λ (k : Result (Option DuplexConsensus) Refusal). settled t (within_limit lab.limit A B) k) by_depths
+        ∙ settled_whole t lab.limit A B xa.depths xb.depths (λ near short. depths_read places A read_a (few_a near short)) (λ near short. depths_read places B read_b (few_b near short))
 
     pub kind_is : r ≡ of_inputs lab A B listed run
     kind_is =
         by_list
-        ∙ ap₂ (λ (t : Result GivenSettings Refusal) (k : Result (Option DuplexConsensus) Refusal). with_list listed run (settled t k)) by_test of_strands
+        ∙ ap₂ (λ (t : Result GivenSettings Refusal) (w : Result (Unit {0}) Refusal). with_list listed run (settled t w ks)) by_test by_lengths
+        ∙ ap (λ (s : Settled). with_list listed run s) (of_strands (answer (refused (settings_faults lab)) lab))
         ∙ listed_is lab A B listed run (misfit_is a) (misfit_is b)
 
     module _ {k : Option DuplexConsensus} (was : r ≡ Ok (k, lab)) where
@@ -184,6 +184,9 @@ module _
       pass : refused (strand_faults first second listed count false) ≡ None
       pass = given_pass lab A B listed run (none_met lab A B listed run before (sym kind_is ∙ was))
 
+      within_both : Within lab.limit (lengths_of first) (lengths_of second)
+      within_both = given_within lab A B listed run (none_met lab A B listed run before (sym kind_is ∙ was))
+
     pub ab_puts : {n : ℕ} {now : RecordBytes} → r ≡ Ok (Some (Ab n), lab) → Room (written n A.annotation None) before → Copied A n xa.errors xa.marks before now → Puts (of_kind lab A B listed run before (Some (Ab n))) before now
     unfolding strand_of
     ab_puts {n} {now} was room c =
@@ -192,7 +195,7 @@ module _
         let size : positions first ≡ n = cc in
         let same : length A.bases ≡ n = at size in
         let l = as_long A p in
-        single_written places A read_a (seen_evidence a) l (fits places A few_a p l)
+        single_written places A read_a (seen_evidence a) l (fits places lab.limit A few_a (within_both was).a_long (within_both was).a_over l)
         (subst (λ (m : ℕ). Room (written m A.annotation None) before) (sym same) room)
         (subst (λ (m : ℕ). Copied A m xa.errors xa.marks before now) (sym same) c)
       where
@@ -207,7 +210,7 @@ module _
         let size : positions second ≡ n = cc in
         let same : length B.bases ≡ n = at size in
         let l = as_long B p in
-        single_written places B read_b (seen_evidence b) l (fits places B few_b p l)
+        single_written places B read_b (seen_evidence b) l (fits places lab.limit B few_b (within_both was).b_long (within_both was).b_over l)
         (subst (λ (m : ℕ). Room (written m B.annotation None) before) (sym same) room)
         (subst (λ (m : ℕ). Copied B m xb.errors xb.marks before now) (sym same) c)
       where
@@ -235,15 +238,15 @@ module _
         let lb = as_long B pb in
         let in_a : n ≤ length A.bases = omega arith in
         let in_b : n ≤ length B.bases = omega arith in
-        let fit_a = fits places A few_a pa la in
-        let fit_b = fits places B few_b pb lb in
+        let fit_a = fits places lab.limit A few_a (within_both was).a_long (within_both was).a_over la in
+        let fit_b = fits places lab.limit B few_b (within_both was).b_long (within_both was).b_over lb in
         let sa = strand_whole places A read_a (seen_evidence a) (whole places A read_a (seen_evidence a) la fit_a) in
         let sb = strand_whole places B read_b (seen_evidence b) (whole places B read_b (seen_evidence b) lb fit_b) in
         let arrays_a = ap (λ (s : Strand). s.arrays) sa in
         let arrays_b = ap (λ (s : Strand). s.arrays) sb in
         let ct_is = ap₂ ct_input sva.annotation svb.annotation in
         let clear = none_lost (strand_faults first second listed count false) (pass was) in
-        let whole_kind : ks ≡ Ok (Some (Both n)) = kind_settled tested ks (settled_kept listed run (settled tested ks) (sym by_list ∙ was)) in
+        let whole_kind : ks ≡ Ok (Some (Both n)) = kind_settled tested within ks (settled_kept listed run (settled tested within ks) (sym by_list ∙ was)) in
         let counted : counted_errors (reads_of run) run _ (replicate places 0) ≡ counted_errors (reads_of run) run (combined_of first second n) (replicate places 0) =
         ap (λ s. counted_errors (reads_of run) run s (replicate places 0)) (same_combined sva.annotation svb.annotation (sva.arrays ∙ arrays_a) (svb.arrays ∙ arrays_b) (ap (counted_positions true) whole_kind))
         in

@@ -5,3 +5,4 @@ mod Both
 mod Consensus
 mod Single
 mod Arms
+mod Limit

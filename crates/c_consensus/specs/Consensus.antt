@@ -6,15 +6,17 @@ use Rattle.refusals.specs.Outcome.{answer}
 use Rattle.settings.specs.Settings.{settings_faults}
 use Rattle.settings.specs.declared.GivenSettings.{GivenSettings}
 use Rattle.duplex_kind.specs.Kind.{kind_of}
+use Rattle.duplex_kind.specs.Limit.{lengths_of, limit_faults}
 use Rattle.duplex_kind.specs.declared.DuplexConsensus.{DuplexConsensus}
 use Rattle.molecule_strand.specs.Strand.{StrandBytes, strand_of}
 use Rattle.molecule_consensus.specs.Bytes.{bytes_faults, bytes_record}
 use Rattle.molecule_consensus.specs.Molecule.{MoleculeBytes}
 use Rattle.c_record.specs.Outputs.{RecordBytes, as_bytes, as_arrays, LeavesBytes}
 
--- What refuses the settings, and what refuses that call. Outputs of so many bytes hold so many numbers.
+-- What refuses the settings, row 19 by the lab's limit, and what refuses that call. Outputs of so many bytes hold so many numbers.
 abbrev pub call_faults : GivenSettings → StrandBytes → StrandBytes → Bool → List ℕ → RecordBytes → List Fault
-call_faults lab a b listed run out = settings_faults lab ++ bytes_faults a b listed run (as_arrays out)
+call_faults lab a b listed run out =
+    settings_faults lab ++ limit_faults lab.limit (lengths_of (strand_of a)) (lengths_of (strand_of b)) ++ bytes_faults a b listed run (as_arrays out)
 
 abbrev pub call_refused : GivenSettings → StrandBytes → StrandBytes → Bool → List ℕ → RecordBytes → Option Refusal
 call_refused lab a b listed run out = refused (call_faults lab a b listed run out)

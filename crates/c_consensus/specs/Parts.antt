@@ -15,14 +15,14 @@ use Rattle.vanilla_caller.specs.Strand.{Arrays, arrays, annotation_in, arrays_in
 use Rattle.vanilla_caller.specs.declared.VanillaConsensusRead.{VanillaConsensusRead}
 use Rattle.byte_numbers.specs.Bytes.{words16}
 use Rattle.molecule_evidence.specs.Evidence.{marks_of, marked_bytes, positions_marked}
-use Rattle.molecule_strand.specs.Rows.{long_in}
-use Rattle.molecule_strand.specs.Strand.{StrandBytes, Numbers, numbers, numbers_strand}
+use Rattle.molecule_strand.specs.Strand.{StrandBytes, Numbers, numbers, numbers_strand, strand_of}
 use Rattle.molecule_fields.specs.Widths.{is_run}
 use Rattle.molecule_reads.specs.Run.{reads_of}
 use Rattle.duplex_molecule.specs.declared.CtInput.{CtInput}
 use Rattle.duplex_arrays.specs.Positions.{unless_short, combined_errors, uncounted, errors_short}
 use Rattle.duplex_evidence.specs.Kept.{mark_of, marks_short}
 use Rattle.duplex_kind.specs.Kind.{Strand, strand}
+use Rattle.duplex_kind.specs.Limit.{lengths_of, over_in, length_faults}
 use Rattle.duplex_kind.specs.declared.DuplexConsensus.{DuplexConsensus}
 use Rattle.duplex_consensus.specs.Consensus.{combined_of, counted_positions}
 use Rattle.source_reads.specs.Reads.{counted_errors}
@@ -49,19 +49,24 @@ abbrev pub settled_by : Result (Option DuplexConsensus × Settings) Refusal → 
 settled_by (Ok s) = Ok (s.0, given_of s.1)
 settled_by (Err row) = Err row
 
--- The settings are refused before the kind.
-abbrev pub both_of : Result GivenSettings Refusal → Result (Option DuplexConsensus) Refusal → Settled
-both_of (Err row) kind = Err row
-both_of (Ok lab) (Err row) = Err row
-both_of (Ok lab) (Ok kind) = Ok (kind, lab)
+-- The settings are refused before the lengths, and these before the kind.
+abbrev pub both_of : Result GivenSettings Refusal → Result (Unit {0}) Refusal → Result (Option DuplexConsensus) Refusal → Settled
+both_of (Err row) within kind = Err row
+both_of (Ok lab) (Err row) kind = Err row
+both_of (Ok lab) (Ok passed) (Err row) = Err row
+both_of (Ok lab) (Ok passed) (Ok kind) = Ok (kind, lab)
 
 -- The kind's own 13 comes before the settings' rows.
 abbrev pub is_broken : Result (Option DuplexConsensus) Refusal → Bool
 is_broken (Ok kind) = false
 is_broken (Err row) = eqb (code row) (code Broken)
 
-abbrev pub settled : Result GivenSettings Refusal → Result (Option DuplexConsensus) Refusal → Settled
-settled tested kind = cond (is_broken kind) (Err Broken) (both_of tested kind)
+abbrev pub settled : Result GivenSettings Refusal → Result (Unit {0}) Refusal → Result (Option DuplexConsensus) Refusal → Settled
+settled tested within kind = cond (is_broken kind) (Err Broken) (both_of tested within kind)
+
+-- The rows by lengths, of strands whose numbers are bytes.
+abbrev pub within_limit : ℕ → StrandBytes → StrandBytes → Result (Unit {0}) Refusal
+within_limit limit a b = answer (refused (length_faults limit (lengths_of (strand_of a)) (lengths_of (strand_of b)))) tt
 
 -- The same, or row 9 behind its rows.
 abbrev pub unless_many : Bool → Settled → Settled
@@ -96,9 +101,9 @@ kept_left (Some pattern) marks evidence out = put (marked_bytes (positions_marke
 abbrev pub KeptAs : ℕ → CtInput → StrandBytes → List ℕ → List ℕ → List ℕ → List ℕ → List ℕ → Type 0
 KeptAs n ct s a b marks before now = now ≡ kept_left s.annotation (take n (marks_left n ct s.annotation a b marks)) s.evidence before
 
--- A strand that row 7 lets pass has no more depths.
-abbrev pub FitsIn : ℕ → StrandBytes → Type 0
-FitsIn n s = long_in s ≡ false → length s.depths / 2 ≤ n
+-- A strand that rows 7 and 19 let pass has no more depths.
+abbrev pub FitsIn : ℕ → ℕ → StrandBytes → Type 0
+FitsIn n limit s = over_in 1024 (lengths_of (strand_of s)) ≡ false → over_in limit (lengths_of (strand_of s)) ≡ false → length s.depths / 2 ≤ n
 
 abbrev pub is_short : ℕ → StrandBytes → Bool
 is_short places s = not (ltb places (length s.depths / 2))

@@ -7,24 +7,25 @@
 
 ghost use Rattle.std.specs.Prelude.{◌≡◌, ◌/◌, ◌≤◌, [], is_some, length, take};
 ghost use Rattle.lists.specs.Output.{put};
-ghost use Rattle.settings.specs.Settings.{told_by};
+ghost use Rattle.settings.specs.Settings.{limited_to, told_by};
 ghost use Rattle.vanilla_caller.specs.Strand.{annotation_in, arrays_in};
 ghost use Rattle.byte_numbers.specs.Bytes.{bytes16};
 ghost use Rattle.molecule_evidence.specs.Evidence.{marked_bytes, positions_marked};
-ghost use Rattle.molecule_strand.specs.Strand.{encoded_in, numbers, StrandRead};
+ghost use Rattle.molecule_strand.specs.Strand.{encoded_in, numbers, strand_of, StrandRead};
 ghost use Rattle.molecule_errors.specs.Run.{run_in};
 ghost use Rattle.molecule_consensus.specs.Molecule.{molecule_in, seen_of};
+ghost use Rattle.duplex_kind.specs.Limit.{lengths_of};
 ghost use Rattle.duplex_molecule.specs.Molecule.{ct_input};
 ghost use Rattle.duplex_arrays.specs.Positions.{PositionsAs};
 ghost use Rattle.c_record.specs.Lent.{bytes_out, SameBytes};
 ghost use Rattle.c_consensus.specs.Consensus.{MoleculeBytesAs};
-ghost use Rattle.c_consensus.specs.Parts.{strand_read, StrandIs, settled_by, settled, with_list, list_errors, errors_left, KeptAs, FitsIn, is_short};
+ghost use Rattle.c_consensus.specs.Parts.{strand_read, StrandIs, settled_by, settled, within_limit, with_list, list_errors, errors_left, KeptAs, FitsIn, is_short};
 
 use c_record::{ByteOutputs, written_of};
 use duplex_arrays::{PositionOutputs, write_errors, write_positions};
 use duplex_consensus::{combined_bases, counted_positions};
 use duplex_evidence::write_marks;
-use duplex_kind::DuplexConsensus;
+use duplex_kind::{DuplexConsensus, limit_refusal};
 use duplex_molecule::{CtInput, ct_input};
 use lists::{copy, front};
 use methylation::{ConversionPattern, EvidenceOutputs, EvidenceSlices};
@@ -34,7 +35,7 @@ use molecule_reads::count_run;
 use molecule_strand::{EncodedStrand, kind_of_depths, read_strand, strand_of_numbers};
 use refusals::{MAX_READS, Refusal, refuse};
 use settings::{GivenSettings, Settings};
-use vanilla_caller::VanillaConsensusRead;
+use vanilla_caller::{Lengths, VanillaConsensusRead};
 
 fn annotation_of(s: Option<EncodedStrand>) -> Option<ConversionPattern>
     ensures { result ≡ (encoded_in s.entry).annotation }
@@ -91,18 +92,43 @@ fn strand_in<'a>(
     ))
 }
 
-// The kind of a record and the settings that it is made by. Refuses by the kind's 13, then as the settings, then by the kind's other rows.
+// The kind of a record and the settings that it is made by. Refuses by the kind's 13, then as the settings, then as the lengths by their
+// limit, then by the kind's other rows.
 fn settled(
     kind: Result<Option<DuplexConsensus>, Refusal>,
     settings: Result<Settings, Refusal>,
+    within: Result<(), Refusal>,
 ) -> Result<(Option<DuplexConsensus>, Settings), Refusal>
-    ensures { settled_by result ≡ settled (told_by settings) kind }
+    ensures { settled_by result ≡ settled (told_by settings) within kind }
 {
     if let Err(Refusal::Broken) = kind {
         return Err(Refusal::Broken);
     }
     let settings = settings?;
+    within?;
     Ok((kind?, settings))
+}
+
+// How long the numbers of a strand are that may be absent.
+// Inlined, here and below, for speed: each call copies both strands.
+#[inline(always)]
+#[tactic(auto, using(crate::proofs::Limit::lengths_are), unfolding(molecule_strand::specs::Strand::strand_of))]
+fn lengths_of(s: Option<EncodedStrand>) -> Option<Lengths>
+    ensures { result ≡ lengths_of (strand_of (encoded_in s.entry)) }
+{
+    s.map(EncodedStrand::lengths)
+}
+
+// The rows that are tested of the lengths of two strands by a limit. Refuses by 7, 19.
+#[inline(always)]
+fn within_limit(
+    limit: u16,
+    a: Option<EncodedStrand>,
+    b: Option<EncodedStrand>,
+) -> Result<(), Refusal>
+    ensures { result ≡ within_limit limit (encoded_in a.entry) (encoded_in b.entry) }
+{
+    limit_refusal(limit, lengths_of(a), lengths_of(b))
 }
 
 // The same with the list of reads, whose errors are counted where both strands make one record. The run is walked before these refuse
@@ -110,15 +136,16 @@ fn settled(
 fn listed_kind(
     kind: Result<Option<DuplexConsensus>, Refusal>,
     settings: Result<Settings, Refusal>,
+    within: Result<(), Refusal>,
     reads: Option<&[u8]>,
     a: VanillaConsensusRead,
     b: VanillaConsensusRead,
     errors: &mut [u16],
 ) -> Result<(Option<DuplexConsensus>, Settings), Refusal>
-    ensures kind { settled_by result ≡ with_list (is_some reads.entry) (run_in reads.entry) (settled (told_by settings) kind) }
+    ensures kind { settled_by result ≡ with_list (is_some reads.entry) (run_in reads.entry) (settled (told_by settings) within kind) }
     ensures errors { errors.new ≡ list_errors (is_some reads.entry) (run_in reads.entry) kind a.entry b.entry errors.old }
 {
-    let settled = settled(kind, settings);
+    let settled = settled(kind, settings, within);
     let Some(run) = reads else {
         return settled;
     };
@@ -215,15 +242,16 @@ fn write_single(
     write_marked(front(marks, n), evidence_of(s), out.a_evidence);
 }
 
-// The record, by arrays of N places, which no strand has more positions than that row 7 lets pass. A call clears them, which is most of
-// what it takes longer than the call on numbers: hence as few places as will do, and no arrays for counts of evidence.
+// The record, by arrays of N places, which no strand has more positions than that rows 7 and 19 let pass. A call clears them, which is
+// most of what it takes longer than the call on numbers: hence as few places as will do, and no arrays for counts of evidence.
+#[inline(always)]
 fn consensus_within<const N: usize>(
     given: GivenSettings,
     m: EncodedMolecule,
     out: &mut ByteOutputs<'_>,
 ) -> Result<Option<DuplexConsensus>, Refusal>
     requires places { N ≤ 1024 }
-    requires fits { FitsIn N (encoded_in m.a) × FitsIn N (encoded_in m.b) }
+    requires fits { FitsIn N given.limit (encoded_in m.a) × FitsIn N given.limit (encoded_in m.b) }
     ensures same_references { SameBytes out.old out.new }
     ensures made { MoleculeBytesAs given (seen_of (molecule_in m.entry))
         (bytes_out out.old)
@@ -243,7 +271,16 @@ fn consensus_within<const N: usize>(
     let of_strands = kind_of_depths(m.a, m.b, &a_depths, &b_depths);
     let a = strand_in(m.a, &a_depths, &a_errors, &a_marks);
     let b = strand_in(m.b, &b_depths, &b_errors, &b_marks);
-    let (kind, settings) = listed_kind(of_strands, given.tested(), m.reads, a, b, &mut errors)?;
+    let within = within_limit(given.limit, m.a, m.b);
+    let (kind, settings) = listed_kind(
+        of_strands,
+        given.tested(),
+        within,
+        m.reads,
+        a,
+        b,
+        &mut errors,
+    )?;
     let first = annotation_of(m.a);
     let second = annotation_of(m.b);
     out.refusal(written_of(first, second, kind))?;
@@ -278,7 +315,8 @@ fn is_short(s: Option<EncodedStrand>, places: usize) -> bool
 }
 
 // The record of two strands, of one or of none, by a lab's settings. Evidence is not looked at without an annotation. Refuses by 13, 14,
-// 7, 8, 9, then by 12 for what is written.
+// 7, 19, 8, 9, then by 12 for what is written.
+#[tactic(auto, using(crate::proofs::Limit::fits_short, crate::proofs::Limit::fits_all))]
 pub fn duplex_consensus_bytes(
     given: GivenSettings,
     m: EncodedMolecule,
@@ -298,4 +336,20 @@ pub fn duplex_consensus_bytes(
         return consensus_within::<512>(given, m, out);
     }
     consensus_within::<1024>(given, m, out)
+}
+
+// The same of strands of no more positions than a preview shows, whatever the lab's limit: its memory is for no more.
+#[tactic(auto, using(crate::proofs::Limit::fits_preview))]
+pub fn preview_consensus_bytes(
+    given: GivenSettings,
+    m: EncodedMolecule,
+    out: &mut ByteOutputs<'_>,
+) -> Result<Option<DuplexConsensus>, Refusal>
+    ensures same_references { SameBytes out.old out.new }
+    ensures made { MoleculeBytesAs (limited_to 256 given) (seen_of (molecule_in m.entry))
+        (bytes_out out.old)
+        (bytes_out out.new)
+        result }
+{
+    consensus_within::<256>(given.limited_to(256), m, out)
 }

@@ -4,19 +4,16 @@
 // c_consensus.
 #![tactic(auto)]
 
-ghost use Rattle.std.specs.Prelude.{◌≡◌, is_some};
+ghost use Rattle.std.specs.Prelude.{◌≡◌};
 ghost use Rattle.replies.specs.Choices.{yes};
 ghost use Rattle.duplex_metrics.specs.Metrics.{input};
-ghost use Rattle.molecule_errors.specs.Run.{run_in};
-ghost use Rattle.c_record.specs.Lent.{bytes_out, SameBytes};
 ghost use Rattle.c_record.specs.Outputs.{record_bytes};
 ghost use Rattle.c_metrics.specs.Bytes.{seen, MetricsEntry};
-ghost use Rattle.c_interface.specs.Entry.{strand_given, strand_told, told_by, ConsensusOf, ConsensusEntry};
+ghost use Rattle.c_interface.specs.Entry.{strand_given, strand_told, told_by, molecule_told, molecule_by, previewed, ConsensusEntry};
 
-use c_consensus::duplex_consensus_bytes;
+use c_consensus::{duplex_consensus_bytes, preview_consensus_bytes};
 use c_metrics::metrics_of_bytes;
 use c_record::ByteOutputs;
-use duplex_kind::DuplexConsensus;
 use duplex_metrics::{Counts, MetricsInput};
 use duplex_reply::DuplexRecord;
 use molecule_consensus::EncodedMolecule;
@@ -64,31 +61,34 @@ pub fn strand_told<'a>(
     Ok(Some(s.annotated(annotation, evidence)))
 }
 
-// The combination of two strands, each of which may be refused.
-fn consensus(
-    given: GivenSettings,
-    a: Result<Option<EncodedStrand>, Refusal>,
-    b: Result<Option<EncodedStrand>, Refusal>,
-    run: Option<&[u8]>,
-    out: &mut ByteOutputs<'_>,
-) -> Result<Option<DuplexConsensus>, Refusal>
-    ensures same_references { SameBytes out.old out.new }
-    ensures made { ConsensusOf given (told_by a.entry) (told_by b.entry) (is_some run.entry) (run_in run.entry)
-        (bytes_out out.old)
-        (bytes_out out.new)
-        result }
+// A molecule as C gives it, whose strands come with their evidence apart: each as far as it is looked at, and reads where they are listed.
+// Refuses by 13 as the strands do.
+// Inlined for speed: else what it answers is copied.
+#[inline(always)]
+fn told_molecule<'a>(
+    told: ToldEncodedMolecule,
+    a: EncodedStrand<'a>,
+    a_evidence: &'a [u8],
+    b: EncodedStrand<'a>,
+    b_evidence: &'a [u8],
+    reads: &'a [u8],
+) -> Result<EncodedMolecule<'a>, Refusal>
+    ensures { molecule_by result ≡ molecule_told told
+        (strand_given told.a.present told.a.annotated told.a.pattern a.entry.bases.now a.entry.quals.now a.entry.depths.now a.entry.errors.now a_evidence.now)
+        (strand_given told.b.present told.b.annotated told.b.pattern b.entry.bases.now b.entry.quals.now b.entry.depths.now b.entry.errors.now b_evidence.now)
+        reads.now }
 {
-    let m = EncodedMolecule {
-        a: a?,
-        b: b?,
-        reads: run,
-    };
-    duplex_consensus_bytes(given, m, out)
+    let s = told.a;
+    let a = strand_told(s.present, s.annotated, s.pattern, a, a_evidence)?;
+    let s = told.b;
+    let b = strand_told(s.present, s.annotated, s.pattern, b, b_evidence)?;
+    let reads = (told.listed != 0).then_some(reads);
+    Ok(EncodedMolecule { a, b, reads })
 }
 
 // The duplex record of two strands, document 01's combination, as bytes. Of a strand that is not there nothing is looked at, and its
 // pattern and evidence only with an annotation; reads are a run of whole fields 30, looked at where they are listed. Refuses by 13, 14, 7,
-// 8, 9, then by 12 for what is written.
+// 19, 8, 9, then by 12 for what is written.
 #[unsafe(no_mangle)]
 pub extern "C" fn gedrashiw_duplex_consensus(
     molecule: ToldEncodedMolecule,
@@ -126,12 +126,54 @@ pub extern "C" fn gedrashiw_duplex_consensus(
         a_evidence: a_evidence_out,
         b_evidence: b_evidence_out,
     };
-    let told = molecule.a;
-    let a = strand_told(told.present, told.annotated, told.pattern, a, a_evidence);
-    let told = molecule.b;
-    let b = strand_told(told.present, told.annotated, told.pattern, b, b_evidence);
-    let run = (molecule.listed != 0).then_some(reads);
-    DuplexRecord::from(consensus(molecule.settings, a, b, run, &mut out))
+    match told_molecule(molecule, a, a_evidence, b, b_evidence, reads) {
+        Ok(m) => DuplexRecord::from(duplex_consensus_bytes(molecule.settings, m, &mut out)),
+        Err(refusal) => DuplexRecord::from(refusal),
+    }
+}
+
+// The same for a preview: of no more than 256 positions, whatever the lab's limit, and by memory for no more.
+#[unsafe(no_mangle)]
+pub extern "C" fn gedrashiw_preview_consensus(
+    molecule: ToldEncodedMolecule,
+    a_bases: &[u8],
+    a_quals: &[u8],
+    a_depths: &[u8],
+    a_errors: &[u8],
+    a_evidence: &[u8],
+    b_bases: &[u8],
+    b_quals: &[u8],
+    b_depths: &[u8],
+    b_errors: &[u8],
+    b_evidence: &[u8],
+    reads: &[u8],
+    bases_out: &mut [u8],
+    quals_out: &mut [u8],
+    errors_out: &mut [u8],
+    a_evidence_out: &mut [u8],
+    b_evidence_out: &mut [u8],
+) -> DuplexRecord
+    ensures { ConsensusEntry (previewed molecule)
+        (strand_given molecule.a.present molecule.a.annotated molecule.a.pattern a_bases.now a_quals.now a_depths.now a_errors.now a_evidence.now)
+        (strand_given molecule.b.present molecule.b.annotated molecule.b.pattern b_bases.now b_quals.now b_depths.now b_errors.now b_evidence.now)
+        reads.now
+        (record_bytes bases_out.old quals_out.old errors_out.old a_evidence_out.old b_evidence_out.old)
+        (record_bytes bases_out.new quals_out.new errors_out.new a_evidence_out.new b_evidence_out.new)
+        result }
+{
+    let a = EncodedStrand::new(a_bases, a_quals, a_depths, a_errors);
+    let b = EncodedStrand::new(b_bases, b_quals, b_depths, b_errors);
+    let mut out = ByteOutputs {
+        bases: bases_out,
+        quals: quals_out,
+        errors: errors_out,
+        a_evidence: a_evidence_out,
+        b_evidence: b_evidence_out,
+    };
+    match told_molecule(molecule, a, a_evidence, b, b_evidence, reads) {
+        Ok(m) => DuplexRecord::from(preview_consensus_bytes(molecule.settings, m, &mut out)),
+        Err(refusal) => DuplexRecord::from(refusal),
+    }
 }
 
 // The metrics of a record, document 01's "Metrics", as 40 bytes: aD, aM, aE, bD, bM, bE, cD, cM, cE, nc. Depths and errors are

@@ -3,7 +3,7 @@ ghost use Rattle.std.specs.Prelude.{◌||◌, ◌≡◌};
 ghost use Rattle.replies.specs.Choices.{yes};
 ghost use Rattle.molecule_strand.specs.Strand.{wrong_encoded_pattern};
 ghost use Rattle.c_record.specs.Outputs.{record_bytes};
-ghost use Rattle.c_interface.specs.Entry.{told, strand_given, ConsensusEntry};
+ghost use Rattle.c_interface.specs.Entry.{told, strand_given, previewed, ConsensusEntry};
 ghost use Rattle.duplex_metrics.specs.Metrics.{input};
 ghost use Rattle.c_metrics.specs.Bytes.{seen, MetricsEntry};
 ghost use Rattle.rust_reason.specs.Reply.{reason_for};
@@ -20,7 +20,7 @@ use rust_reason::Reason;
 
 // The duplex record of two strands, document 01's combination, as bytes. Of a strand that is not there nothing is looked at, and its
 // pattern and evidence only with an annotation; reads are a run of whole fields 30, looked at where they are listed. Refuses by 13, 14, 7,
-// 8, 9, then by 12 for what is written.
+// 19, 8, 9, then by 12 for what is written.
 #[unsafe(no_mangle)]
 pub extern "C" fn gedrashiw_duplex_consensus(
     molecule: ToldEncodedMolecule,
@@ -70,6 +70,56 @@ pub extern "C" fn gedrashiw_duplex_consensus(
     )
 }
 
+// The same for a preview: of no more than 256 positions, whatever the lab's limit, and by memory for no more.
+#[unsafe(no_mangle)]
+pub extern "C" fn gedrashiw_preview_consensus(
+    molecule: ToldEncodedMolecule,
+    a_bases: &[u8],
+    a_quals: &[u8],
+    a_depths: &[u8],
+    a_errors: &[u8],
+    a_evidence: &[u8],
+    b_bases: &[u8],
+    b_quals: &[u8],
+    b_depths: &[u8],
+    b_errors: &[u8],
+    b_evidence: &[u8],
+    reads: &[u8],
+    bases_out: &mut [u8],
+    quals_out: &mut [u8],
+    errors_out: &mut [u8],
+    a_evidence_out: &mut [u8],
+    b_evidence_out: &mut [u8],
+) -> DuplexRecord
+    ensures { ConsensusEntry (previewed molecule)
+        (strand_given molecule.a.present molecule.a.annotated molecule.a.pattern a_bases.now a_quals.now a_depths.now a_errors.now a_evidence.now)
+        (strand_given molecule.b.present molecule.b.annotated molecule.b.pattern b_bases.now b_quals.now b_depths.now b_errors.now b_evidence.now)
+        reads.now
+        (record_bytes bases_out.old quals_out.old errors_out.old a_evidence_out.old b_evidence_out.old)
+        (record_bytes bases_out.new quals_out.new errors_out.new a_evidence_out.new b_evidence_out.new)
+        result }
+{
+    c_interface::gedrashiw_preview_consensus(
+        molecule,
+        a_bases,
+        a_quals,
+        a_depths,
+        a_errors,
+        a_evidence,
+        b_bases,
+        b_quals,
+        b_depths,
+        b_errors,
+        b_evidence,
+        reads,
+        bases_out,
+        quals_out,
+        errors_out,
+        a_evidence_out,
+        b_evidence_out,
+    )
+}
+
 // The metrics of a record, document 01's "Metrics", as 40 bytes: aD, aM, aE, bD, bM, bE, cD, cM, cE, nc. Depths and errors are
 // 16-bit numbers, those written are 32-bit numbers, and a rate is its bits. second is 0 where there is no second strand.
 // Answers 0, or the number of the refusal: 13, 7, 8, 12.
@@ -94,7 +144,7 @@ pub extern "C" fn gedrashiw_metrics(
 // Why a position of the record that two strands make shows N: `no_call_reason` over bytes. Depths and errors are two bytes a position,
 // evidence nine (mark, unconverted, converted). What is there or annotated is 0 for no, any other number for yes; a pattern is 0 for C to
 // T, 1 for G to A. Of a strand that is not there nothing is looked at, and its pattern and evidence only with an annotation. Refuses by
-// 13, 7, 8, as `gedrashiw_duplex_consensus` does without reads and with settings that pass, whether or not there is a record.
+// 13, 7, 8, as `gedrashiw_duplex_consensus` does without reads and by settings that refuse nothing, whether or not there is a record.
 #[unsafe(no_mangle)]
 pub extern "C" fn gedrashiw_no_call_reason(
     a_present: u8,
