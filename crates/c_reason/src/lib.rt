@@ -104,7 +104,7 @@ fn reason_by(
 // Why a position of the record that two strands make shows N: `no_call_reason` over bytes. Depths and errors are two bytes a position,
 // evidence nine (mark, unconverted, converted). What is there or annotated is 0 for no, any other number for yes; a pattern is 0 for C to
 // T, 1 for G to A. Of a strand that is not there nothing is looked at, and its pattern and evidence only with an annotation. Refuses by
-// 13, 7, 8, as `gedrashiw_duplex_consensus` does without reads and with settings that pass, whether or not there is a record.
+// 13, 7, 8, as `gedrashiw_duplex_consensus` does without reads and by settings that refuse nothing, whether or not there is a record.
 #[unsafe(no_mangle)]
 pub extern "C" fn gedrashiw_no_call_reason(
     a_present: u8,

@@ -37,7 +37,7 @@ use Rattle.ceiling_claims.specs.Positions.{Ceilings}
 use Rattle.ceiling_claims.specs.Records.{of_two, combined_in, LoweredQuals, LoweredRecord, OfTwoStrands, NoneAbove, Uncapped, SameErrors, ErrorsByAny}
 use Rattle.ceiling_claims.proofs.Positions.{at_a_position}
 
-same_evidence : (row : Option Refusal) (written before one other : EvidenceArrays) → LeavesEvidence row written before one → LeavesEvidence row written before other → one ≡ other
+pub same_evidence : (row : Option Refusal) (written before one other : EvidenceArrays) → LeavesEvidence row written before one → LeavesEvidence row written before other → one ≡ other
 same_evidence row written before one other l m =
     let marks = l.marks ∙ sym m.marks in
     let unconverted = l.unconverted ∙ sym m.unconverted in

@@ -1,14 +1,14 @@
--- At the ceiling 93 everything is as it was before a lab could choose one. No old definition is kept beside the new: the old rule is the
--- new one with 93 put in, by a lab whose settings are `usual`. Proved in proofs/Before.antt.
+-- At the ceiling 93 and the limit 1,024 everything is as it was before a lab could choose them. No old definition is kept beside the new:
+-- the old rule is the new one with these put in, by a lab whose settings are `usual`. Proved in proofs/Before.antt.
 use Rattle.std.specs.Prelude.{None, Option, Err, ◌≡◌, Bool, true, List, ◌∷◌, ℕ, ◌+◌, ◌-◌, ◌<◌, min, max, get_or}
 use Rattle.refusals.specs.declared.Refusal.TheVariants.{Broken}
 use Rattle.refusals.specs.Refusal.{◌if◌, refused}
 use Rattle.refusals.specs.Outcome.{answer}
 use Rattle.phred.specs.Phred.{capped_quality, ceiling_faults}
-use Rattle.settings.specs.Settings.{usual, settings_faults, told_faults}
+use Rattle.settings.specs.Settings.{usual, settings_faults}
 use Rattle.methylation.specs.declared.ConversionPattern.{ConversionPattern}
 use Rattle.replies.specs.Choices.{yes}
-use Rattle.replies.specs.Replies.{not_counted, numbered, count_reply, number_reply, PassedOn, RepliedAs, RefusedOr}
+use Rattle.replies.specs.Replies.{not_counted, numbered, count_reply, number_reply, PassedOn, RepliedAs}
 use Rattle.replies.specs.declared.Count.{Count}
 use Rattle.vanilla_caller.specs.Strand.{Arrays}
 use Rattle.duplex_molecule.specs.declared.CtInput.{CtInput}
@@ -29,11 +29,12 @@ use Rattle.c_record.specs.Outputs.{RecordBytes, as_arrays}
 use Rattle.c_interface.specs.Entry.{entry_refused}
 use Rattle.source_reads.specs.declared.SourceRead.{SourceRead}
 use Rattle.ceiling_claims.specs.Positions.{Unheld}
-use Rattle.ceiling_claims.specs.Entries.{under}
+use Rattle.ceiling_claims.specs.Entries.{under, AnnotatedEntry, PlainEntry}
 
 pub record AsBefore : Type 0 where
-  -- The usual ceiling is 93, and nothing refuses it.
+  -- The usual ceiling is 93, the usual limit 1,024, and nothing refuses them.
   pub chosen : usual.ceiling ≡ 93
+  pub limit : usual.limit ≡ 1024
   pub taken : refused (settings_faults usual) ≡ None
   -- The old rule held a quality to 2 and 93: a sum, a difference, and at a call the confirming strand's own.
   pub held : (score : ℕ) → capped_quality 93 score ≡ max 2 (min score 93)
@@ -48,7 +49,8 @@ pub record AsBefore : Type 0 where
       → i < n
       → (get_or (both_arrays usual listed counted n ct ma a mb b).bases i 0 ≡ (position_of 93 ct a b i).base)
       × (get_or (both_arrays usual listed counted n ct ma a mb b).quals i 0 ≡ (position_of 93 ct a b i).qual)
-  -- The entries promise what they did: 13 where a number stands for nothing, else the library's call. That one by the usual settings.
+  -- The entries promise what they did: 13 where a number stands for nothing, else the library's call. That one by the usual settings. 19 is
+  -- never met by them: an array over 1,024 is refused by 7, of the entry or of the call.
   pub typed :
       (m : ToldMolecule) (a b : Arrays) (reads : List SourceRead) (bytes : List ℕ) (before now : RecordArrays) (r : DuplexRecord)
       → EntryAs (under usual m) a b reads bytes before now r
@@ -56,11 +58,11 @@ pub record AsBefore : Type 0 where
   pub annotated :
       (wrong : Bool) (ct : CtInput) (ma : Option ConversionPattern) (a : Arrays) (mb : Option ConversionPattern) (b : Arrays) (listed : Bool)
       (before now : RecordArrays) (r : Count)
-      → RefusedOr (refused (told_faults wrong usual)) count_reply (CombinedAs usual ct ma a mb b listed) before now r
+      → AnnotatedEntry wrong usual ct ma a mb b listed before now r
       → RepliedAs wrong (not_counted 13) count_reply (CombinedAs usual ct ma a mb b listed) before now r
   pub plain :
       (a b : Arrays) (listed : Bool) (before now : RecordArrays) (r : Count)
-      → RefusedOr (refused (settings_faults usual)) count_reply (CombinedAs usual Neither None a None b listed) before now r
+      → PlainEntry usual a b listed before now r
       → PassedOn count_reply (CombinedAs usual Neither None a None b listed) before now r
   -- That over bytes is refused by the rows that it had; what else it promises is the library's call by the usual settings.
   pub bytes :

@@ -12,7 +12,7 @@ use Rattle.c_interface.specs.Entry.{wrong_molecule, ConsensusEntry}
 use Rattle.c_interface.specs.declared.ToldEncodedMolecule.{ToldEncodedMolecule}
 use Rattle.ceiling_claims.specs.Positions.{Ceilings}
 use Rattle.ceiling_claims.specs.Records.{LoweredQuals}
-use Rattle.ceiling_claims.specs.Entries.{of_two_told}
+use Rattle.ceiling_claims.specs.Entries.{of_two_told, settings_of}
 
 -- Row 13's condition: a pattern that stands for nothing, a byte count that does not fit, or a list that is a broken run.
 abbrev pub row_13 : ToldEncodedMolecule → StrandBytes → StrandBytes → List ℕ → Bool
@@ -43,12 +43,12 @@ pub record LoweredBytes (ceiling n : ℕ) (lower higher : RecordBytes) : Type 0 
 abbrev pub encoded_under : GivenSettings → ToldEncodedMolecule → ToldEncodedMolecule
 encoded_under lab m = record { a = m.a; b = m.b; listed = m.listed; settings = lab }
 
--- Two calls at two ceilings, with the same of all else.
+-- Two calls at two ceilings, with the same of all else, the limit too.
 abbrev pub BytesAtTwo : Type 0
 BytesAtTwo =
-    (lower higher : GivenSettings) (m : ToldEncodedMolecule) (a b : StrandBytes) (run : List ℕ)
+    (lower higher limit : ℕ) (m : ToldEncodedMolecule) (a b : StrandBytes) (run : List ℕ)
     (before at_lower at_higher : RecordBytes) (r s : DuplexRecord)
-    → Ceilings lower.ceiling higher.ceiling
-    → ConsensusEntry (encoded_under lower m) a b run before at_lower r
-    → ConsensusEntry (encoded_under higher m) a b run before at_higher s
-    → (r ≡ s) × LoweredBytes lower.ceiling (of_two_told r) at_lower at_higher
+    → Ceilings lower higher
+    → ConsensusEntry (encoded_under (settings_of lower limit) m) a b run before at_lower r
+    → ConsensusEntry (encoded_under (settings_of higher limit) m) a b run before at_higher s
+    → (r ≡ s) × LoweredBytes lower (of_two_told r) at_lower at_higher

@@ -39,4 +39,4 @@ pub record Worked : Type 0 where
   pub call_92 : combined 92 IsA letter_t 30 0 letter_c 93 0 ≡ shows letter_c 92
   pub call_3 : combined 3 IsA letter_t 30 0 letter_c 40 0 ≡ shows letter_c 3
   -- One strand keeps its 93.
-  pub one_strand : (record_arrays (record { ceiling = 3 }) lone (given_of None) false uncounted (kind_of lone (given_of None))).quals ≡ 93 ∷ []
+  pub one_strand : (record_arrays (record { ceiling = 3; limit = 1024 }) lone (given_of None) false uncounted (kind_of lone (given_of None))).quals ≡ 93 ∷ []

@@ -1,0 +1,4 @@
+pub mod Arrays
+pub mod Same
+pub mod Over
+pub mod Worked
