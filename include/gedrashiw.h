@@ -8,11 +8,12 @@
  *     Metrics           aD to cE and nc
  *     Methylation tags  restored sequence, MM, ML, counts
  *     One position      what two bases, a quality, a count, a reference base say
- *     As bytes          combination, reasons, metrics and methylation tags over arrays of bytes, low byte first
+ *     As bytes          combination, preview, reasons, metrics and methylation tags over arrays of bytes, low byte first
  *
  * An array is a pointer and the number of its elements, in this order. What is told of a molecule in a few bytes, and what a lab chooses,
  * is a struct that is passed by value. The entries keep no pointer, allocate nothing and hold no state, so that threads may call them side
- * by side. None takes more than GEDRASHIW_STACK_BYTES of stack: so it was measured, not proved.
+ * by side. None takes more than GEDRASHIW_STACK_BYTES of stack, and the preview's no more than GEDRASHIW_PREVIEW_STACK_BYTES: so it was
+ * measured, not proved.
  *
  * What the caller must see to, since no contract can: each pointer is valid for its number of elements, for reading, and outputs for
  * writing; it is aligned as its type asks; and no output overlaps an input or another output. With the number 0 a pointer is not
@@ -48,7 +49,8 @@ enum gedrashiw_refusal {
     GEDRASHIW_BELOW_LENGTH = 11,       /* padding to less than the present length */
     GEDRASHIW_OUTPUT_TOO_SHORT = 12,   /* an output has fewer places than are written */
     GEDRASHIW_BROKEN = 13,             /* a number that stands for no choice; of bytes: a count that does not fit, or a broken run */
-    GEDRASHIW_CEILING_OUTSIDE = 14     /* a quality ceiling outside 3 to 93 */
+    GEDRASHIW_CEILING_OUTSIDE = 14,    /* a quality ceiling outside 3 to 93 */
+    GEDRASHIW_OVER_LIMIT = 19          /* an array of a strand is over the limit of positions that a lab chose */
 };
 
 /* ==== Choices. Whether something is so is a number too: 0 no, any other yes. ==== */
@@ -56,6 +58,8 @@ enum gedrashiw_refusal {
 #define GEDRASHIW_MAX_POSITIONS 1024
 #define GEDRASHIW_MAX_READS 1024
 #define GEDRASHIW_STACK_BYTES 65536
+#define GEDRASHIW_PREVIEW_POSITIONS 256
+#define GEDRASHIW_PREVIEW_STACK_BYTES 16384
 
 /* The annotation of a strand, or its conversion pattern: there GEDRASHIW_NOT_ANNOTATED is refused as 13. So are numbers above 2. */
 enum gedrashiw_annotation {
@@ -100,9 +104,14 @@ enum gedrashiw_kind {
 
 /* ceiling   the highest quality of a record of two strands, from 3 to 93; another is refused as 14. 93 is that of fgumi-consensus and of
  *           duplexline; some variant callers take nothing above 60. Only qualities depend on it: at a lower ceiling each is the smaller of
- *           that ceiling and what it is at a higher one. A record of one strand keeps its qualities, whatever the ceiling. */
+ *           that ceiling and what it is at a higher one. A record of one strand keeps its qualities, whatever the ceiling.
+ * limit     the most positions of a strand, any number from 0: where an array that is looked at has more, the call is refused as 19,
+ *           directly after 7, so that a limit above 1,024 is as 1,024. The lengths of the arrays count, not that of the record. 1,024 is the
+ *           batch product's, 256 the preview's. Nothing else depends on it: of strands whose arrays are within two limits a call answers and
+ *           writes the same at both, refusals included. */
 struct gedrashiw_settings {
     uint8_t ceiling;
+    uint16_t limit;
 };
 
 /* ==== Answers that several entries have. `refused` is 0, or the refusal's number. ==== */
@@ -310,7 +319,7 @@ struct gedrashiw_told_molecule {
  * strand that counts alone is copied whole, with its evidence cleared where it is not informative. What is written, of as many
  * positions as the record has: bases, qualities, errors; to the outputs a_ the evidence of A where A is in the record and annotated, or
  * of B where B alone is the record; to the outputs b_ the evidence of B where both are the record and B is annotated. The other outputs
- * of evidence are not looked at. 13, then 14, 7, 8, 9, 10, 12. */
+ * of evidence are not looked at. 13, then 14, 7, 19, 8, 9, 10, 12. */
 struct gedrashiw_duplex_record
 gedrashiw_duplex_consensus_typed(struct gedrashiw_told_molecule molecule,
                                  const uint8_t *a_bases, size_t a_bases_len,
@@ -340,7 +349,7 @@ gedrashiw_duplex_consensus_typed(struct gedrashiw_told_molecule molecule,
                                  uint32_t *b_converted_out, size_t b_converted_out_len);
 
 /* Its parts, for a caller that has its own way with coverage and reads. The combination of two strands without annotation over their
- * shorter length; where reads are listed every error is 0, and counting is left to the caller. 14, then 7, 8, 12. */
+ * shorter length; where reads are listed every error is 0, and counting is left to the caller. 14, then 7, 19, 8, 12. */
 struct gedrashiw_count
 gedrashiw_combine_strands(uint8_t listed, struct gedrashiw_settings settings,
                           const uint8_t *a_bases, size_t a_bases_len,
@@ -363,7 +372,7 @@ struct gedrashiw_told_strands {
     struct gedrashiw_settings settings;
 };
 
-/* The same of strands that may be annotated. 13, then 14, 7, 8, 12. */
+/* The same of strands that may be annotated. 13, then 14, 7, 19, 8, 12. */
 struct gedrashiw_count
 gedrashiw_combine_strands_annotated(struct gedrashiw_told_strands strands,
                                     const uint8_t *a_bases, size_t a_bases_len,
@@ -459,8 +468,8 @@ struct gedrashiw_reason {
 };
 
 /* Why the record that gedrashiw_duplex_consensus_typed makes of the same strands shows N at a position: any number, counted from 0.
- * Source reads change no base, and a ceiling makes none N, so neither is taken. Strands are tested before all else, also where there is
- * no record. 13, then 7, 8. */
+ * Source reads change no base, a ceiling makes none N, and a limit refuses and does no more, so none of these is taken. Strands are tested
+ * before all else, also where there is no record. 13, then 7, 8. */
 struct gedrashiw_reason
 gedrashiw_no_call_reason_typed(uint8_t a_present,
                                const uint8_t *a_bases, size_t a_bases_len,
@@ -647,8 +656,8 @@ struct gedrashiw_letters gedrashiw_bases(uint8_t pattern);
  * case. */
 uint8_t gedrashiw_is_cpg_context(const uint8_t *ref_seq, size_t ref_seq_len, size_t pos, uint8_t is_top_strand);
 
-/* ==== As bytes: combination, reasons, metrics and methylation tags where numbers of more than one byte are passed as bytes, low byte first,
- * whatever the host's own order. A length is a number of bytes, and bytes need no alignment. ==== */
+/* ==== As bytes: combination, preview, reasons, metrics and methylation tags where numbers of more than one byte are passed as bytes, low
+ * byte first, whatever the host's own order. A length is a number of bytes, and bytes need no alignment. ==== */
 
 /* The bytes that gedrashiw_metrics writes. */
 #define GEDRASHIW_METRICS_BYTES 40
@@ -724,7 +733,8 @@ struct gedrashiw_told_encoded_molecule {
  *                   at 5  reads converted, a 32-bit number
  *
  * Lengths are in bytes: ten positions are an a_bases_len and an a_quals_len of 10, an a_depths_len and an a_errors_len of 20, and
- * an a_evidence_len of 90. The arrays of one strand have the same number of positions, at most 1,024; the two strands may differ.
+ * an a_evidence_len of 90. The arrays of one strand have the same number of positions, at most the settings' limit and at most 1,024; the
+ * two strands may differ.
  *
  * reads    the list, at most 1,024 reads: one after another, with nothing between, before or behind them,
  *              at 0  the byte 0x30
@@ -745,7 +755,7 @@ struct gedrashiw_told_encoded_molecule {
  * Bytes of an output past the written ones are left as they were; with no record nothing is written. A record has at most 1,024
  * positions, so 1,024, 1,024, 2,048, 9,216 and 9,216 bytes are always enough.
  *
- * Answers with refused 0, or 13, 14, 7, 8, 9 or 12.
+ * Answers with refused 0, or 13, 14, 7, 19, 8, 9 or 12.
  */
 struct gedrashiw_duplex_record
 gedrashiw_duplex_consensus(struct gedrashiw_told_encoded_molecule molecule,
@@ -766,9 +776,37 @@ gedrashiw_duplex_consensus(struct gedrashiw_told_encoded_molecule molecule,
                            uint8_t *a_evidence_out, size_t a_evidence_out_len,
                            uint8_t *b_evidence_out, size_t b_evidence_out_len);
 
+/* The same for a live preview, which shows no more than 256 positions: gedrashiw_duplex_consensus at the smaller of the settings' limit and
+ * GEDRASHIW_PREVIEW_POSITIONS, so that a strand with an array of 257 to 1,024 positions is refused as 19. Of strands within 256 it answers and
+ * writes what gedrashiw_duplex_consensus does by the same settings, refusals included.
+ *
+ * A record has at most 256 positions, so outputs of 256, 256, 512, 2,304 and 2,304 bytes are always enough. It takes no more than
+ * GEDRASHIW_PREVIEW_STACK_BYTES of stack.
+ *
+ * Answers with refused 0, or 13, 14, 7, 19, 8, 9 or 12.
+ */
+struct gedrashiw_duplex_record
+gedrashiw_preview_consensus(struct gedrashiw_told_encoded_molecule molecule,
+                            const uint8_t *a_bases, size_t a_bases_len,
+                            const uint8_t *a_quals, size_t a_quals_len,
+                            const uint8_t *a_depths, size_t a_depths_len,
+                            const uint8_t *a_errors, size_t a_errors_len,
+                            const uint8_t *a_evidence, size_t a_evidence_len,
+                            const uint8_t *b_bases, size_t b_bases_len,
+                            const uint8_t *b_quals, size_t b_quals_len,
+                            const uint8_t *b_depths, size_t b_depths_len,
+                            const uint8_t *b_errors, size_t b_errors_len,
+                            const uint8_t *b_evidence, size_t b_evidence_len,
+                            const uint8_t *reads, size_t reads_len,
+                            uint8_t *bases_out, size_t bases_out_len,
+                            uint8_t *quals_out, size_t quals_out_len,
+                            uint8_t *errors_out, size_t errors_out_len,
+                            uint8_t *a_evidence_out, size_t a_evidence_out_len,
+                            uint8_t *b_evidence_out, size_t b_evidence_out_len);
+
 /* Why the record that gedrashiw_duplex_consensus makes of the same strands, with the same arrays, shows N at a position: any number,
  * counted from 0. Of each strand the first three numbers are those of struct gedrashiw_told_encoded_strand. Source reads change no base,
- * and a ceiling makes none N, so neither is taken.
+ * a ceiling makes none N, and a limit refuses and does no more, so none of these is taken.
  *
  * Answers with refused 0 and one of enum gedrashiw_no_call_reason, or with refused 13, 7 or 8 and reason 0.
  */

@@ -155,7 +155,8 @@ static int annotate(const char *name, struct strand *s, const struct molecule *m
 
 static int combine(const struct strand *a, const struct strand *b, const struct molecule *m, struct record *r)
 {
-    struct gedrashiw_told_molecule molecule = {{1, a->pattern}, {1, b->pattern}, 1, {GEDRASHIW_MAX_CEILING}};
+    struct gedrashiw_settings usual = {GEDRASHIW_MAX_CEILING, GEDRASHIW_MAX_POSITIONS};
+    struct gedrashiw_told_molecule molecule = {{1, a->pattern}, {1, b->pattern}, 1, usual};
     struct gedrashiw_duplex_record d = gedrashiw_duplex_consensus_typed(
         molecule, (const uint8_t *)a->bases, POSITIONS, a->quals, POSITIONS, a->depths, POSITIONS, a->errors, POSITIONS,
         a->evidence.marks, POSITIONS, a->evidence.unconverted, POSITIONS, a->evidence.converted, POSITIONS, (const uint8_t *)b->bases,

@@ -159,9 +159,11 @@ static struct gedrashiw_told_encoded_strand told(const struct strand *s)
     return t;
 }
 
+enum product { BATCH, PREVIEW };
+
 /* a and b may be null: the strand is not there. reads may be null: there is no list. */
-static void print_at(const char *name, struct gedrashiw_settings settings, const struct strand *a, const struct strand *b,
-                     const struct read *reads, size_t count)
+static void print_at(const char *name, enum product product, struct gedrashiw_settings settings, const struct strand *a,
+                     const struct strand *b, const struct read *reads, size_t count)
 {
     static const struct strand none = {.bases = ""};
     const struct strand *x = a ? a : &none, *y = b ? b : &none;
@@ -171,7 +173,7 @@ static void print_at(const char *name, struct gedrashiw_settings settings, const
     size_t run_len = reads ? put_reads(run, reads, count) : 0;
 
     struct gedrashiw_told_encoded_molecule molecule = {told(a), told(b), reads != NULL, settings};
-    struct gedrashiw_duplex_record r = gedrashiw_duplex_consensus(
+    struct gedrashiw_duplex_record r = (product == PREVIEW ? gedrashiw_preview_consensus : gedrashiw_duplex_consensus)(
         molecule, (const uint8_t *)x->bases, xs.positions, x->quals, xs.positions, xs.depths, 2 * xs.positions, xs.errors,
         2 * xs.positions, xs.evidence, GEDRASHIW_EVIDENCE_BYTES * x->evidence_len, (const uint8_t *)y->bases, ys.positions, y->quals,
         ys.positions, ys.depths, 2 * ys.positions, ys.errors, 2 * ys.positions, ys.evidence,
@@ -207,19 +209,23 @@ static void print_at(const char *name, struct gedrashiw_settings settings, const
 
 static void print_molecule(const char *name, const struct strand *a, const struct strand *b, const struct read *reads, size_t count)
 {
-    static const struct gedrashiw_settings usual = {GEDRASHIW_MAX_CEILING};
-    print_at(name, usual, a, b, reads, count);
+    static const struct gedrashiw_settings usual = {GEDRASHIW_MAX_CEILING, GEDRASHIW_MAX_POSITIONS};
+    print_at(name, BATCH, usual, a, b, reads, count);
 }
 
 int main(void)
 {
-    static const struct gedrashiw_settings sixty = {60}, two = {2};
+    static const struct gedrashiw_settings sixty = {60, GEDRASHIW_MAX_POSITIONS}, two = {2, GEDRASHIW_MAX_POSITIONS};
+    static const struct gedrashiw_settings of_three = {GEDRASHIW_MAX_CEILING, 3};
+    static const struct gedrashiw_settings preview = {GEDRASHIW_MAX_CEILING, GEDRASHIW_PREVIEW_POSITIONS};
     /* Document 01's printed example. */
     struct strand a = {.bases = "ACGT", .quals = {30, 30, 30, 30}, .depths = {2, 2, 2, 2}};
     struct strand b = {.bases = "ACTN", .quals = {20, 40, 30, 2}, .depths = {1, 1, 1, 1}};
     print_molecule("two strands", &a, &b, NULL, 0);
-    print_at("two strands, no quality above 60", sixty, &a, &b, NULL, 0);
-    print_at("two strands, no quality above 2", two, &a, &b, NULL, 0);
+    print_at("two strands, no quality above 60", BATCH, sixty, &a, &b, NULL, 0);
+    print_at("two strands, no quality above 2", BATCH, two, &a, &b, NULL, 0);
+    print_at("two strands, of 3 positions at most", BATCH, of_three, &a, &b, NULL, 0);
+    print_at("two strands, in a preview", PREVIEW, preview, &a, &b, NULL, 0);
     print_molecule("strand B", NULL, &b, NULL, 0);
     b.depths[0] = b.depths[1] = b.depths[2] = b.depths[3] = 0;
     print_molecule("an uncovered strand", NULL, &b, NULL, 0);

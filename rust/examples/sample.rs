@@ -2,7 +2,9 @@
 //! `bin/rust_sample` builds and runs it; examples/c/sample.c does the same in C and prints the same.
 use gedrashiw::methylation::ConversionPattern::{CToT, GToA};
 use gedrashiw::methylation::{EvidenceArrays, MethylationAnnotation, MethylationEvidence};
-use gedrashiw::{DuplexConsensusCaller, Refusal, Settings, SourceReadBuffer, SourceReads, VanillaConsensusRead};
+use gedrashiw::{
+    DuplexConsensusCaller, DuplexConsensusRead, Refusal, Settings, SourceReadBuffer, SourceReads, VanillaConsensusRead,
+};
 
 fn joined<T: ToString>(numbers: &[T]) -> String {
     numbers.iter().map(T::to_string).collect::<Vec<_>>().join(" ")
@@ -18,9 +20,10 @@ fn print_evidence(name: &str, methylation: Option<&MethylationAnnotation>) {
 }
 
 type Strand<'a> = Option<&'a VanillaConsensusRead<'a>>;
+type Made<'a> = Result<Option<DuplexConsensusRead<'a>>, Refusal>;
 
-fn print_record(name: &str, settings: Settings, a: Strand, b: Strand, reads: Option<SourceReads>) -> Result<(), Refusal> {
-    let Some(record) = DuplexConsensusCaller::duplex_consensus(settings, a, b, reads)? else {
+fn print_record(name: &str, a: Strand, b: Strand, made: Made) -> Result<(), Refusal> {
+    let Some(record) = made? else {
         println!("{name}: no record, 0 positions");
         return Ok(());
     };
@@ -46,10 +49,14 @@ fn print_record(name: &str, settings: Settings, a: Strand, b: Strand, reads: Opt
     Ok(())
 }
 
-fn print_at(name: &str, settings: Settings, a: Strand, b: Strand, reads: Option<SourceReads>) {
-    if let Err(refusal) = print_record(name, settings, a, b, reads) {
+fn print_made(name: &str, a: Strand, b: Strand, made: Made) {
+    if let Err(refusal) = print_record(name, a, b, made) {
         println!("{name}: refused {}", refusal.number());
     }
+}
+
+fn print_at(name: &str, settings: Settings, a: Strand, b: Strand, reads: Option<SourceReads>) {
+    print_made(name, a, b, DuplexConsensusCaller::duplex_consensus(settings, a, b, reads));
 }
 
 fn print_molecule(name: &str, a: Strand, b: Strand, reads: Option<SourceReads>) {
@@ -61,8 +68,12 @@ fn main() {
     let a = VanillaConsensusRead::new(b"ACGT", &[30; 4], &[2; 4], &[0; 4]);
     let b = VanillaConsensusRead::new(b"ACTN", &[20, 40, 30, 2], &[1; 4], &[0; 4]);
     print_molecule("two strands", Some(&a), Some(&b), None);
-    print_at("two strands, no quality above 60", Settings { ceiling: 60 }, Some(&a), Some(&b), None);
-    print_at("two strands, no quality above 2", Settings { ceiling: 2 }, Some(&a), Some(&b), None);
+    let usual = Settings::default();
+    print_at("two strands, no quality above 60", Settings { ceiling: 60, ..usual }, Some(&a), Some(&b), None);
+    print_at("two strands, no quality above 2", Settings { ceiling: 2, ..usual }, Some(&a), Some(&b), None);
+    print_at("two strands, of 3 positions at most", Settings { limit: 3, ..usual }, Some(&a), Some(&b), None);
+    let previewed = DuplexConsensusCaller::preview_consensus(usual, Some(&a), Some(&b), None);
+    print_made("two strands, in a preview", Some(&a), Some(&b), previewed);
     print_molecule("strand B", None, Some(&b), None);
     let uncovered = VanillaConsensusRead { depths: vec![0; 4].into(), ..b };
     print_molecule("an uncovered strand", None, Some(&uncovered), None);

@@ -1,7 +1,7 @@
 //! The calls on numbers given as bytes, low byte first, which C programs that keep molecules encoded use. Lengths are in bytes.
 use crate::MAX_POSITIONS;
 use crate::duplex_caller::{Kind, Record, cut};
-use crate::entries::{self, ToldEncodedMolecule, ToldEncodedStrand};
+use crate::entries::{self, RecordOfBytes, ToldEncodedMolecule, ToldEncodedStrand};
 use crate::methylation::{
     ConversionPattern, CountsOut, DuplexMethylationTags, DuplexTagLengths, DuplexTagsOut, MethylationMode, TagBuffers,
 };
@@ -138,7 +138,8 @@ pub fn metrics_into(
 ///
 /// # Errors
 ///
-/// [`Refusal::Broken`], [`Refusal::CeilingOutside`], [`Refusal::TooLong`], [`Refusal::Ragged`], [`Refusal::TooManyReads`].
+/// [`Refusal::Broken`], [`Refusal::CeilingOutside`], [`Refusal::TooLong`], [`Refusal::OverLimit`], [`Refusal::Ragged`],
+/// [`Refusal::TooManyReads`].
 ///
 /// ```
 /// use gedrashiw::bytes::{CountBytes, StrandBytes, duplex_consensus};
@@ -149,7 +150,8 @@ pub fn metrics_into(
 /// let evidence = [1, 3, 0, 0, 0, 4, 0, 0, 0];
 /// let a = StrandBytes { bases: b"T", quals: &[30], counts, annotation: Some((ConversionPattern::CToT, &evidence)) };
 /// let b = StrandBytes { bases: b"C", quals: &[40], annotation: Some((ConversionPattern::GToA, &evidence)), ..a };
-/// let record = duplex_consensus(Settings { ceiling: 60 }, Some(&a), Some(&b), None)?.expect("both are covered");
+/// let sixty = Settings { ceiling: 60, ..Settings::default() };
+/// let record = duplex_consensus(sixty, Some(&a), Some(&b), None)?.expect("both are covered");
 /// assert_eq!((record.kind, record.bases, record.quals, record.errors), (Kind::Both, b"C".to_vec(), vec![60], vec![0, 0]));
 /// assert_eq!((record.first_evidence, record.second_evidence), (Some(evidence.to_vec()), Some(vec![0; 9])));
 /// # Ok::<(), gedrashiw::Refusal>(())
@@ -160,8 +162,52 @@ pub fn duplex_consensus(
     b: Option<&StrandBytes>,
     reads: Option<&[u8]>,
 ) -> Result<Option<RecordBytes>, Refusal> {
+    made(entries::gedrashiw_duplex_consensus, settings, a, b, reads)
+}
+
+/// The same for a live preview: [`duplex_consensus`] at the smaller of the settings' limit and [`PREVIEW_POSITIONS`]. Of strands within
+/// these it gives the same, refusals included; no memory is taken for more.
+///
+/// [`PREVIEW_POSITIONS`]: crate::PREVIEW_POSITIONS
+///
+/// # Errors
+///
+/// As [`duplex_consensus`].
+///
+/// ```
+/// use gedrashiw::bytes::{CountBytes, StrandBytes, duplex_consensus, preview_consensus};
+/// use gedrashiw::{Refusal, Settings};
+///
+/// let usual = Settings::default();
+/// let counts = CountBytes { depths: &[1; 514], errors: &[0; 514] };
+/// let long = StrandBytes { bases: &[b'A'; 257], quals: &[30; 257], counts, annotation: None };
+/// assert_eq!(preview_consensus(usual, Some(&long), None, None), Err(Refusal::OverLimit));
+/// assert!(duplex_consensus(usual, Some(&long), None, None)?.is_some());
+/// let counts = CountBytes { depths: &[1; 512], errors: &[0; 512] };
+/// let shown = StrandBytes { bases: &[b'A'; 256], quals: &[30; 256], counts, annotation: None };
+/// assert_eq!(preview_consensus(usual, Some(&shown), None, None), duplex_consensus(usual, Some(&shown), None, None));
+/// # Ok::<(), gedrashiw::Refusal>(())
+/// ```
+pub fn preview_consensus(
+    settings: Settings,
+    a: Option<&StrandBytes>,
+    b: Option<&StrandBytes>,
+    reads: Option<&[u8]>,
+) -> Result<Option<RecordBytes>, Refusal> {
+    made(entries::gedrashiw_preview_consensus, settings.previewed(), a, b, reads)
+}
+
+/// The record that an entry point makes.
+#[inline]
+fn made(
+    entry: RecordOfBytes,
+    settings: Settings,
+    a: Option<&StrandBytes>,
+    b: Option<&StrandBytes>,
+    reads: Option<&[u8]>,
+) -> Result<Option<RecordBytes>, Refusal> {
     let given = || [a, b].into_iter().flatten();
-    let places = given().map(|s| s.bases.len()).max().unwrap_or(0).min(MAX_POSITIONS);
+    let places = given().map(|s| s.bases.len()).max().unwrap_or(0).min(MAX_POSITIONS).min(usize::from(settings.limit));
     let evidence = if given().any(|s| s.annotation.is_some()) { EVIDENCE_BYTES * places } else { 0 };
     let (mut bases, mut quals, mut errors) = (vec![0; places], vec![0; places], vec![0; 2 * places]);
     let (mut first, mut second) = (vec![0; evidence], vec![0; evidence]);
@@ -172,7 +218,7 @@ pub fn duplex_consensus(
         first_evidence: &mut first,
         second_evidence: &mut second,
     };
-    let Some(Record { kind, positions }) = duplex_consensus_into(settings, a, b, reads, &mut out)? else {
+    let Some(Record { kind, positions }) = made_into(entry, settings, a, b, reads, &mut out)? else {
         return Ok(None);
     };
     let kept = |strand: Option<&StrandBytes>, evidence| {
@@ -220,13 +266,59 @@ pub fn duplex_consensus_into(
     reads: Option<&[u8]>,
     out: &mut RecordBytesOut,
 ) -> Result<Option<Record>, Refusal> {
+    made_into(entries::gedrashiw_duplex_consensus, settings, a, b, reads, out)
+}
+
+/// Writes [`preview_consensus`]. A record has at most [`PREVIEW_POSITIONS`], and no output needs more places.
+///
+/// [`PREVIEW_POSITIONS`]: crate::PREVIEW_POSITIONS
+///
+/// # Errors
+///
+/// As [`preview_consensus`], and [`Refusal::OutputTooShort`].
+///
+/// ```
+/// use gedrashiw::bytes::{CountBytes, RecordBytesOut, StrandBytes, preview_consensus_into};
+/// use gedrashiw::{Kind, Record, Refusal, Settings};
+///
+/// let (mut bases, mut quals, mut errors) = ([0; 256], [0; 256], [0; 512]);
+/// let mut out = RecordBytesOut { bases: &mut bases, quals: &mut quals, errors: &mut errors, ..Default::default() };
+/// let mut shown = |positions: usize| {
+///     let counts = CountBytes { depths: &[1; 514][..2 * positions], errors: &[0; 514][..2 * positions] };
+///     let a = StrandBytes { bases: &[b'A'; 257][..positions], quals: &[30; 257][..positions], counts, annotation: None };
+///     preview_consensus_into(Settings::default(), Some(&a), Some(&a), None, &mut out)
+/// };
+/// assert_eq!(shown(257), Err(Refusal::OverLimit));
+/// assert_eq!(shown(256), Ok(Some(Record { kind: Kind::Both, positions: 256 })));
+/// assert_eq!((bases, quals), ([b'A'; 256], [60; 256]));
+/// ```
+pub fn preview_consensus_into(
+    settings: Settings,
+    a: Option<&StrandBytes>,
+    b: Option<&StrandBytes>,
+    reads: Option<&[u8]>,
+    out: &mut RecordBytesOut,
+) -> Result<Option<Record>, Refusal> {
+    made_into(entries::gedrashiw_preview_consensus, settings, a, b, reads, out)
+}
+
+/// Writes the record that an entry point makes. Inlined: each caller has one entry point.
+#[inline(always)]
+fn made_into(
+    entry: RecordOfBytes,
+    settings: Settings,
+    a: Option<&StrandBytes>,
+    b: Option<&StrandBytes>,
+    reads: Option<&[u8]>,
+    out: &mut RecordBytesOut,
+) -> Result<Option<Record>, Refusal> {
     let (present, listed) = ([a, b].map(|s| u8::from(s.is_some())), u8::from(reads.is_some()));
     let (a, b) = (a.copied().unwrap_or_default(), b.copied().unwrap_or_default());
     let (annotated, pattern, a_evidence) = given(a.annotation);
     let of_a = ToldEncodedStrand { present: present[0], annotated, pattern };
     let (annotated, pattern, b_evidence) = given(b.annotation);
     let of_b = ToldEncodedStrand { present: present[1], annotated, pattern };
-    let record = entries::gedrashiw_duplex_consensus(
+    let record = entry(
         ToldEncodedMolecule { a: of_a, b: of_b, listed, settings },
         a.bases,
         a.quals,

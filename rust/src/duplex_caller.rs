@@ -529,7 +529,7 @@ impl DuplexConsensusCaller {
     ///
     /// # Errors
     ///
-    /// [`Refusal::CeilingOutside`], [`Refusal::TooLong`], [`Refusal::Ragged`].
+    /// [`Refusal::CeilingOutside`], [`Refusal::TooLong`], [`Refusal::OverLimit`], [`Refusal::Ragged`].
     ///
     /// ```
     /// use gedrashiw::{DuplexConsensusCaller, Settings, VanillaConsensusRead};
@@ -538,7 +538,8 @@ impl DuplexConsensusCaller {
     /// let b = VanillaConsensusRead::new(b"AT", &[20; 2], &[3; 2], &[0; 2]);
     /// let combined = DuplexConsensusCaller::combine_strands(Settings::default(), &a, &b, false)?;
     /// assert_eq!((combined.bases, combined.quals, combined.errors), (b"AC".to_vec(), vec![50, 10], vec![0, 3]));
-    /// let combined = DuplexConsensusCaller::combine_strands(Settings { ceiling: 40 }, &a, &b, false)?;
+    /// let forty = Settings { ceiling: 40, ..Settings::default() };
+    /// let combined = DuplexConsensusCaller::combine_strands(forty, &a, &b, false)?;
     /// assert_eq!((combined.bases, combined.quals, combined.errors), (b"AC".to_vec(), vec![40, 10], vec![0, 3]));
     /// # Ok::<(), gedrashiw::Refusal>(())
     /// ```
@@ -558,7 +559,7 @@ impl DuplexConsensusCaller {
     ///
     /// # Errors
     ///
-    /// [`Refusal::CeilingOutside`], [`Refusal::TooLong`], [`Refusal::Ragged`], [`Refusal::OutputTooShort`].
+    /// [`Refusal::CeilingOutside`], [`Refusal::TooLong`], [`Refusal::OverLimit`], [`Refusal::Ragged`], [`Refusal::OutputTooShort`].
     ///
     /// ```
     /// use gedrashiw::{ConsensusOut, DuplexConsensusCaller, Settings, VanillaConsensusRead};
@@ -598,7 +599,7 @@ impl DuplexConsensusCaller {
     ///
     /// # Errors
     ///
-    /// [`Refusal::CeilingOutside`], [`Refusal::TooLong`], [`Refusal::Ragged`].
+    /// [`Refusal::CeilingOutside`], [`Refusal::TooLong`], [`Refusal::OverLimit`], [`Refusal::Ragged`].
     ///
     /// ```
     /// use gedrashiw::methylation::{ConversionPattern, EvidenceArrays};
@@ -631,7 +632,7 @@ impl DuplexConsensusCaller {
     ///
     /// # Errors
     ///
-    /// [`Refusal::CeilingOutside`], [`Refusal::TooLong`], [`Refusal::Ragged`], [`Refusal::OutputTooShort`].
+    /// [`Refusal::CeilingOutside`], [`Refusal::TooLong`], [`Refusal::OverLimit`], [`Refusal::Ragged`], [`Refusal::OutputTooShort`].
     ///
     /// ```
     /// use gedrashiw::methylation::EvidenceOut;
@@ -645,7 +646,9 @@ impl DuplexConsensusCaller {
     ///     DuplexConsensusCaller::combine_strands_annotated_into(settings, &a, &a, false, &mut out, &mut first, &mut second)
     /// };
     /// assert_eq!(written(Settings::default()), Err(Refusal::OutputTooShort));
-    /// assert_eq!(written(Settings { ceiling: 2 }), Err(Refusal::CeilingOutside));
+    /// let settings = Settings { ceiling: 2, limit: 1 };
+    /// assert_eq!(written(settings), Err(Refusal::CeilingOutside));
+    /// assert_eq!(written(Settings { ceiling: 3, ..settings }), Err(Refusal::OverLimit));
     /// ```
     pub fn combine_strands_annotated_into(
         settings: Settings,
@@ -693,7 +696,8 @@ impl DuplexConsensusCaller {
     ///
     /// # Errors
     ///
-    /// [`Refusal::CeilingOutside`], [`Refusal::TooLong`], [`Refusal::Ragged`], [`Refusal::TooManyReads`], [`Refusal::PartOutside`].
+    /// [`Refusal::CeilingOutside`], [`Refusal::TooLong`], [`Refusal::OverLimit`], [`Refusal::Ragged`], [`Refusal::TooManyReads`],
+    /// [`Refusal::PartOutside`].
     ///
     /// ```
     /// use gedrashiw::{DuplexConsensusCaller, Settings, VanillaConsensusRead};
@@ -703,7 +707,7 @@ impl DuplexConsensusCaller {
     /// let record = |settings| DuplexConsensusCaller::duplex_consensus(settings, Some(&a), Some(&b), None);
     /// let usual = record(Settings::default())?.expect("both are covered");
     /// assert_eq!((usual.bases, usual.quals, usual.errors), (b"ACNN".to_vec(), vec![50, 70, 2, 2], vec![0, 0, 1, 1]));
-    /// let held = record(Settings { ceiling: 60 })?.expect("both are covered");
+    /// let held = record(Settings { ceiling: 60, ..Settings::default() })?.expect("both are covered");
     /// assert_eq!((held.bases, held.quals, held.errors), (b"ACNN".to_vec(), vec![50, 60, 2, 2], vec![0, 0, 1, 1]));
     /// # Ok::<(), gedrashiw::Refusal>(())
     /// ```
@@ -715,7 +719,7 @@ impl DuplexConsensusCaller {
     ) -> Result<Option<DuplexConsensusRead<'a>>, Refusal> {
         let strands = || [ab, ba].into_iter().flatten();
         let longest = strands().map(VanillaConsensusRead::len).max().unwrap_or(0);
-        let mut buffers = Buffers::of(longest, strands().any(|s| s.methylation.is_some()));
+        let mut buffers = Buffers::of(longest.min(usize::from(settings.limit)), strands().any(|s| s.methylation.is_some()));
         let (mut out, mut first, mut second) = buffers.lent();
         let Some(record) = Self::duplex_consensus_into(settings, ab, ba, source_reads, &mut out, &mut first, &mut second)? else {
             return Ok(None);
@@ -804,9 +808,77 @@ impl DuplexConsensusCaller {
         told(record.refused, Record::of(record.kind, record.positions))
     }
 
+    /// The same for a live preview: [`Self::duplex_consensus`] at the smaller of the settings' limit and [`PREVIEW_POSITIONS`]. Of strands
+    /// within these it gives the same, refusals included; no memory is taken for more.
+    ///
+    /// [`PREVIEW_POSITIONS`]: crate::PREVIEW_POSITIONS
+    ///
+    /// # Errors
+    ///
+    /// As [`Self::duplex_consensus`].
+    ///
+    /// ```
+    /// use gedrashiw::{DuplexConsensusCaller, Refusal, Settings, VanillaConsensusRead};
+    ///
+    /// let usual = Settings::default();
+    /// let long = VanillaConsensusRead::new(&[b'A'; 257], &[30; 257], &[1; 257], &[0; 257]);
+    /// assert_eq!(DuplexConsensusCaller::preview_consensus(usual, Some(&long), None, None), Err(Refusal::OverLimit));
+    /// assert!(DuplexConsensusCaller::duplex_consensus(usual, Some(&long), None, None)?.is_some());
+    /// let shown = VanillaConsensusRead::new(&[b'A'; 256], &[30; 256], &[1; 256], &[0; 256]);
+    /// assert_eq!(
+    ///     DuplexConsensusCaller::preview_consensus(usual, Some(&shown), Some(&shown), None)?,
+    ///     DuplexConsensusCaller::duplex_consensus(usual, Some(&shown), Some(&shown), None)?
+    /// );
+    /// # Ok::<(), gedrashiw::Refusal>(())
+    /// ```
+    pub fn preview_consensus<'a>(
+        settings: Settings,
+        ab: Option<&'a VanillaConsensusRead>,
+        ba: Option<&'a VanillaConsensusRead>,
+        source_reads: Option<SourceReads>,
+    ) -> Result<Option<DuplexConsensusRead<'a>>, Refusal> {
+        Self::duplex_consensus(settings.previewed(), ab, ba, source_reads)
+    }
+
+    /// Writes the duplex record of [`Self::preview_consensus`]; answers what it is, as [`Self::duplex_consensus_into`]. A record has at most
+    /// [`PREVIEW_POSITIONS`], and no output needs more places.
+    ///
+    /// [`PREVIEW_POSITIONS`]: crate::PREVIEW_POSITIONS
+    ///
+    /// # Errors
+    ///
+    /// As [`Self::preview_consensus`], and [`Refusal::OutputTooShort`].
+    ///
+    /// ```
+    /// use gedrashiw::methylation::EvidenceOut;
+    /// use gedrashiw::{ConsensusOut, DuplexConsensusCaller, Kind, Record, Settings, VanillaConsensusRead};
+    ///
+    /// let a = VanillaConsensusRead::new(b"AC", &[30; 2], &[1; 2], &[0; 2]);
+    /// let (mut bases, mut quals, mut errors) = ([0; 256], [0; 256], [0; 256]);
+    /// let mut out = ConsensusOut { bases: &mut bases, quals: &mut quals, errors: &mut errors };
+    /// let (mut first, mut second) = (EvidenceOut::default(), EvidenceOut::default());
+    /// let settings = Settings::default();
+    /// let record =
+    ///     DuplexConsensusCaller::preview_consensus_into(settings, Some(&a), Some(&a), None, &mut out, &mut first, &mut second)?;
+    /// assert_eq!(record, Some(Record { kind: Kind::Both, positions: 2 }));
+    /// assert_eq!((&out.bases[..2], &out.quals[..2]), (&b"AC"[..], &[60, 60][..]));
+    /// # Ok::<(), gedrashiw::Refusal>(())
+    /// ```
+    pub fn preview_consensus_into(
+        settings: Settings,
+        ab: Option<&VanillaConsensusRead>,
+        ba: Option<&VanillaConsensusRead>,
+        source_reads: Option<SourceReads>,
+        out: &mut ConsensusOut,
+        first: &mut EvidenceOut,
+        second: &mut EvidenceOut,
+    ) -> Result<Option<Record>, Refusal> {
+        Self::duplex_consensus_into(settings.previewed(), ab, ba, source_reads, out, first, second)
+    }
+
     /// Why the record that [`Self::duplex_consensus`] makes of the same strands shows N at a position, counted from 0; or that it shows a
-    /// base there, that it is of one strand, or that it does not reach so far. Source reads change no base, and a ceiling makes none N, so
-    /// neither is taken.
+    /// base there, that it is of one strand, or that it does not reach so far. Source reads change no base, a ceiling makes none N, and a
+    /// limit refuses and does no more, so none of these is taken.
     ///
     /// # Errors
     ///

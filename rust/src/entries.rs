@@ -159,6 +159,16 @@ pub(crate) struct DuplexTags {
     pub ml: usize,
 }
 
+/// The entry points that make a record of bytes take the same: a molecule, the arrays of A, those of B, a run of reads, and the outputs.
+#[rustfmt::skip]
+pub(crate) type RecordOfBytes = fn(
+    ToldEncodedMolecule,
+    &[u8], &[u8], &[u8], &[u8], &[u8],
+    &[u8], &[u8], &[u8], &[u8], &[u8],
+    &[u8],
+    &mut [u8], &mut [u8], &mut [u8], &mut [u8], &mut [u8],
+) -> DuplexRecord;
+
 /// Places that an entry point writes to: a slice's, or the room of a vector, where no values are yet. The library is linked as machine
 /// code, so that a place without a value is to it one with any.
 pub(crate) struct Places<'a, T>(&'a mut [MaybeUninit<T>]);
@@ -339,6 +349,13 @@ entry! {
         a_depths: &[u8], a_errors: &[u8], second: u8, b_depths: &[u8], b_errors: &[u8],
         bases: &[u8], errors: &[u8], out: &mut [u8]) -> u8;
     fn gedrashiw_duplex_consensus(
+        molecule: ToldEncodedMolecule,
+        a_bases: &[u8], a_quals: &[u8], a_depths: &[u8], a_errors: &[u8], a_evidence: &[u8],
+        b_bases: &[u8], b_quals: &[u8], b_depths: &[u8], b_errors: &[u8], b_evidence: &[u8],
+        reads: &[u8],
+        bases_out: &mut [u8], quals_out: &mut [u8], errors_out: &mut [u8],
+        a_evidence_out: &mut [u8], b_evidence_out: &mut [u8]) -> DuplexRecord;
+    fn gedrashiw_preview_consensus(
         molecule: ToldEncodedMolecule,
         a_bases: &[u8], a_quals: &[u8], a_depths: &[u8], a_errors: &[u8], a_evidence: &[u8],
         b_bases: &[u8], b_quals: &[u8], b_depths: &[u8], b_errors: &[u8], b_evidence: &[u8],

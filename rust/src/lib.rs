@@ -47,6 +47,9 @@ pub use vanilla_caller::{SourceRead, SourceReadBuffer, SourceReads, StrandOut, V
 /// The most positions of a strand or a record.
 pub const MAX_POSITIONS: usize = 1024;
 
+/// The most positions of a strand that a preview shows.
+pub const PREVIEW_POSITIONS: usize = 256;
+
 /// The most reads of a list.
 pub const MAX_READS: usize = 1024;
 

@@ -42,11 +42,13 @@ pub enum Refusal {
     Broken = 13,
     /// A quality ceiling outside 3 to 93.
     CeilingOutside = 14,
+    /// Up to 1,024 positions of every array of a strand, and over the limit that a lab chose.
+    OverLimit = 19,
 }
 
 impl Refusal {
     /// Every row, by number.
-    pub const ALL: [Refusal; 14] = [
+    pub const ALL: [Refusal; 15] = [
         Refusal::NoThresholds,
         Refusal::TooManyThresholds,
         Refusal::XyAboveTotal,
@@ -61,6 +63,7 @@ impl Refusal {
         Refusal::OutputTooShort,
         Refusal::Broken,
         Refusal::CeilingOutside,
+        Refusal::OverLimit,
     ];
 
     /// Its number in the table.
@@ -90,7 +93,14 @@ impl Refusal {
             Refusal::OutputTooShort => "a lent output is shorter than what goes there",
             Refusal::Broken => "a broken run, a byte count that does not fit the widths or a pattern above 1",
             Refusal::CeilingOutside => "quality ceiling outside 3 to 93",
+            Refusal::OverLimit => "a strand over the limit of positions that the lab chose",
         }
+    }
+
+    /// The row of a number. Not every number below the last is one of a row.
+    #[cold]
+    fn of(number: u8) -> Refusal {
+        Refusal::ALL.into_iter().find(|row| row.number() == number).expect("a row of the table")
     }
 }
 
@@ -107,6 +117,6 @@ impl std::error::Error for Refusal {}
 pub(crate) fn told<T>(refused: u8, value: T) -> Result<T, Refusal> {
     match refused {
         0 => Ok(value),
-        number => Err(Refusal::ALL[usize::from(number) - 1]),
+        number => Err(Refusal::of(number)),
     }
 }

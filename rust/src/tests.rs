@@ -1,3 +1,5 @@
+mod limits;
+
 use super::methylation::ConversionPattern::{CToT, GToA};
 use super::methylation::{ConversionPattern, EvidenceArrays, MethylationEvidence, duplex_methylation_tags};
 use super::*;
@@ -152,7 +154,8 @@ fn reads() {
     assert_eq!(estimated, [14, 14]);
     let outside = [SourceRead { flags: 0, offset: 1, length: usize::MAX }];
     let list = Some(SourceReads { reads: &outside, bytes: b"AC" });
-    let refused = |ceiling| DuplexConsensusCaller::duplex_consensus(Settings { ceiling }, Some(&a), None, list).err();
+    let at = |ceiling| Settings { ceiling, ..Settings::default() };
+    let refused = |ceiling| DuplexConsensusCaller::duplex_consensus(at(ceiling), Some(&a), None, list).err();
     assert_eq!([93, 3, 94].map(refused), [Refusal::PartOutside, Refusal::PartOutside, Refusal::CeilingOutside].map(Some));
 }
 
@@ -179,7 +182,8 @@ fn refusals() {
 fn ceilings() {
     let a = strand(b"ACGTTA", &[30, 60, 46, 33, 40, 1], &[2; 6], &[1, 0, 3, 0, 0, 0]);
     let b = strand(b"ACGANA", &[20, 60, 47, 30, 2, 1], &[3; 6], &[0, 5, 0, 1, 0, 0]);
-    let of = |ceiling, a, b| DuplexConsensusCaller::duplex_consensus(Settings { ceiling }, a, b, None);
+    let at = |ceiling| Settings { ceiling, ..Settings::default() };
+    let of = |ceiling, a, b| DuplexConsensusCaller::duplex_consensus(at(ceiling), a, b, None);
     let usual = of(93, Some(&a), Some(&b)).unwrap().unwrap();
     assert_eq!((&usual.bases[..], &usual.quals[..]), (&b"ACGTNN"[..], &[50, 93, 93, 3, 2, 2][..]));
     for ceiling in 3..=93 {
@@ -190,13 +194,14 @@ fn ceilings() {
     }
 }
 
-/// A ceiling outside is refused before 7, whatever record there would be, by every call that takes one.
+/// A ceiling outside is refused before 7 and 19, whatever record there would be, by every call that takes one.
 #[test]
 fn ceilings_outside() {
     let a = strand(b"AC", &[30; 2], &[1; 2], &[0; 2]);
     let long = Strand { errors: vec![0; 1025].into(), ..a.clone() };
     let outside = Some(Refusal::CeilingOutside);
-    for settings in [0, 1, 2, 94, 255].map(|ceiling| Settings { ceiling }) {
+    let settings = |ceiling| [0, 1, 2, 1024].map(|limit| Settings { ceiling, limit });
+    for settings in [0, 1, 2, 94, 255].into_iter().flat_map(settings) {
         assert_eq!(phred::cap_quality(30, settings.ceiling).err(), outside);
         for s in [None, Some(&a), Some(&long)] {
             assert_eq!(DuplexConsensusCaller::duplex_consensus(settings, s, None, None).err(), outside);
@@ -570,5 +575,7 @@ fn reasons_as_numbers_and_text() {
 #[test]
 fn refusals_as_numbers_and_text() {
     assert_eq!(Refusal::TooManyReads.to_string(), "over 1,024 reads in one list");
-    assert!((1..).zip(Refusal::ALL).all(|(n, row)| row.number() == n));
+    let numbers: Vec<u8> = (1..=14).chain([19]).collect();
+    assert_eq!(Refusal::ALL.map(Refusal::number)[..], numbers[..]);
+    assert_eq!(Refusal::ALL.map(|row| refusal::told(row.number(), ())), Refusal::ALL.map(Err));
 }
