@@ -1,13 +1,15 @@
 /* How many bytes of stack the entry points take that take most: each is called on a stack of its own, filled with a pattern, of which the lowest
  * changed byte is looked for; what a call of an empty function takes there is taken off. Strands of 1,024 positions, both annotated, and 20
- * reads. The exit status is 1 where one takes more than the header says. */
+ * reads; in a preview of 256, and of 1,024, which it refuses. The exit status is 1 where one takes more than the header says. */
 #include "gedrashiw.h"
 #include <stdio.h>
 #include <stdlib.h>
 #include <string.h>
 #include <ucontext.h>
 
-enum { N = 1024, READS = 20, STACK = 1 << 20, PATTERN = 0xa5 };
+enum { N = 1024, SHOWN = GEDRASHIW_PREVIEW_POSITIONS, READS = 20, STACK = 1 << 20, PATTERN = 0xa5 };
+
+static const struct gedrashiw_settings settings = {GEDRASHIW_MAX_CEILING, GEDRASHIW_MAX_POSITIONS};
 
 static uint8_t bases[2][N], quals[2][N], marks[2][N], depth_bytes[2][2 * N], error_bytes[2][2 * N], evidence[2][9 * N], run[READS * (5 + N)];
 static uint16_t depths[2][N], errors[2][N];
@@ -30,14 +32,29 @@ static void duplex_metrics(void) {
 }
 
 static void consensus(void) {
-    struct gedrashiw_told_encoded_molecule molecule = {{1, 1, 0}, {1, 1, 1}, 1, {GEDRASHIW_MAX_CEILING}};
+    struct gedrashiw_told_encoded_molecule molecule = {{1, 1, 0}, {1, 1, 1}, 1, settings};
     gedrashiw_duplex_consensus(molecule, bases[0], N, quals[0], N, depth_bytes[0], 2 * N, error_bytes[0], 2 * N, evidence[0], 9 * N, bases[1], N,
                                quals[1], N, depth_bytes[1], 2 * N, error_bytes[1], 2 * N, evidence[1], 9 * N, run, sizeof run, out[0], N, out[1],
                                N, out[2], 2 * N, out[3], 9 * N, out[4], 9 * N);
 }
 
+static struct gedrashiw_duplex_record preview_of(size_t n) {
+    struct gedrashiw_told_encoded_molecule molecule = {{1, 1, 0}, {1, 1, 1}, 1, settings};
+    return gedrashiw_preview_consensus(molecule, bases[0], n, quals[0], n, depth_bytes[0], 2 * n, error_bytes[0], 2 * n, evidence[0], 9 * n,
+                                       bases[1], n, quals[1], n, depth_bytes[1], 2 * n, error_bytes[1], 2 * n, evidence[1], 9 * n, run,
+                                       sizeof run, out[0], SHOWN, out[1], SHOWN, out[2], 2 * SHOWN, out[3], 9 * SHOWN, out[4], 9 * SHOWN);
+}
+
+static void preview(void) {
+    if (preview_of(SHOWN).positions != SHOWN) exit(2);
+}
+
+static void preview_refused(void) {
+    if (preview_of(SHOWN + 1).refused != GEDRASHIW_OVER_LIMIT || preview_of(N).refused != GEDRASHIW_OVER_LIMIT) exit(2);
+}
+
 static void consensus_typed(void) {
-    struct gedrashiw_told_molecule molecule = {{1, 1}, {1, 2}, 1, {GEDRASHIW_MAX_CEILING}};
+    struct gedrashiw_told_molecule molecule = {{1, 1}, {1, 2}, 1, settings};
     gedrashiw_duplex_consensus_typed(molecule, bases[0], N, quals[0], N, depths[0], N, errors[0], N, marks[0], N, counts[0][0], N, counts[0][1], N,
                                      bases[1], N, quals[1], N, depths[1], N, errors[1], N, marks[1], N, counts[1][0], N, counts[1][1], N, reads,
                                      READS, reads_bytes, sizeof reads_bytes, out[0], N, out[1], N, out16[0], N, out[2], N, out32[0], N, out32[1], N,
@@ -104,22 +121,26 @@ int main(void) {
     static const struct {
         const char *name;
         void (*call)(void);
-    } calls[] = {{"gedrashiw_metrics", metrics},
-                 {"gedrashiw_duplex_metrics", duplex_metrics},
-                 {"gedrashiw_duplex_consensus", consensus},
-                 {"gedrashiw_duplex_consensus_typed", consensus_typed},
-                 {"gedrashiw_no_call_reason", reason},
-                 {"gedrashiw_no_call_reason_typed", reason_typed},
-                 {"gedrashiw_duplex_methylation_tags", tags},
-                 {"gedrashiw_methylation_tags", tags_of_bytes}};
+        int previews;
+    } calls[] = {{"gedrashiw_metrics", metrics, 0},
+                 {"gedrashiw_duplex_metrics", duplex_metrics, 0},
+                 {"gedrashiw_duplex_consensus", consensus, 0},
+                 {"gedrashiw_preview_consensus", preview, 1},
+                 {"gedrashiw_preview_consensus, refused", preview_refused, 1},
+                 {"gedrashiw_duplex_consensus_typed", consensus_typed, 0},
+                 {"gedrashiw_no_call_reason", reason, 0},
+                 {"gedrashiw_no_call_reason_typed", reason_typed, 0},
+                 {"gedrashiw_duplex_methylation_tags", tags, 0},
+                 {"gedrashiw_methylation_tags", tags_of_bytes, 0}};
     taken(nothing);
     size_t base = taken(nothing);
-    size_t most = 0;
+    size_t most[2] = {0, 0};
     for (size_t i = 0; i < sizeof calls / sizeof *calls; i++) {
-        size_t bytes = taken(calls[i].call) - base;
+        size_t bytes = taken(calls[i].call) - base, *so_far = &most[calls[i].previews];
         printf("stack of %-36s %6zu bytes\n", calls[i].name, bytes);
-        most = bytes > most ? bytes : most;
+        *so_far = bytes > *so_far ? bytes : *so_far;
     }
-    printf("the most is %zu bytes, and the header allows %d\n", most, GEDRASHIW_STACK_BYTES);
-    return most > GEDRASHIW_STACK_BYTES;
+    printf("the most is %zu bytes, and the header allows %d; of a preview %zu, and %d\n", most[0], GEDRASHIW_STACK_BYTES, most[1],
+           GEDRASHIW_PREVIEW_STACK_BYTES);
+    return most[0] > GEDRASHIW_STACK_BYTES || most[1] > GEDRASHIW_PREVIEW_STACK_BYTES;
 }

@@ -5,6 +5,7 @@ use super::case::{Case, Outputs};
 use super::draw::Draw;
 use super::encoded::{self, Encoded, EncodedStrand};
 use super::molecules::{Kind, molecule};
+use super::library::Product;
 use super::timing::medians;
 use super::{library, rust};
 use crate::vanilla_caller::{SourceRead, VanillaConsensusRead};
@@ -131,7 +132,7 @@ fn measure_bytes(kind: Kind) -> [f64; 2] {
     let times = medians(
         || {
             for molecule in &bytes {
-                black_box(encoded::duplex_consensus(black_box(molecule), black_box(&mut out)));
+                black_box(encoded::consensus(Product::Batch, black_box(molecule), black_box(&mut out)));
             }
         },
         || run_ours(&molecules, &mut numbers),
@@ -146,6 +147,32 @@ fn from_bytes() {
             let [bytes, numbers] = measure_bytes(Kind { positions, reads, annotated });
             println!("{:44} {bytes:10.0} {numbers:10.0} {:7.2}", format!("{positions} positions, {name}"), bytes / numbers);
         }
+    }
+}
+
+// The preview's call and the batch's, of the same bytes: of a record, and of strands that the preview refuses.
+fn previewed(kind: Kind) -> [f64; 2] {
+    let bytes: Vec<Encoded> = prepared(kind).iter().map(|molecule| encoded::encoded(&molecule.case)).collect();
+    let outputs = encoded::filled(&bytes[0].room);
+    let run = |product, out: &mut encoded::ByteOutputs| {
+        for molecule in &bytes {
+            black_box(encoded::consensus(product, black_box(molecule), black_box(out)));
+        }
+    };
+    let (mut shown, mut whole) = (outputs.clone(), outputs);
+    let times = medians(|| run(Product::Preview, &mut shown), || run(Product::Batch, &mut whole));
+    times.map(|time| time / MOLECULES as f64)
+}
+
+fn in_a_preview() {
+    println!("{:44} {:>10} {:>10} {:>7}", "from bytes to bytes, in a preview", "preview, ns", "batch, ns", "times");
+    for (name, positions, annotated) in [
+        ("150 positions, no list, no annotation", 150, false),
+        ("150 positions, no list, annotated", 150, true),
+        ("300 positions, annotated, refused", 300, true),
+    ] {
+        let [preview, batch] = previewed(Kind { positions, reads: None, annotated });
+        println!("{name:44} {preview:10.0} {batch:10.0} {:7.2}", preview / batch);
     }
 }
 
@@ -196,6 +223,7 @@ pub fn main() -> bool {
     ratios();
     parts();
     from_bytes();
+    in_a_preview();
     reasons();
     growth();
     true

@@ -34,6 +34,8 @@ pub struct Case {
     pub bytes: Vec<u8>,
     // 93 where it is held to the Rust, which has no other.
     pub ceiling: u8,
+    // The Rust has none: it is held to the Rust where all strands are within.
+    pub limit: u16,
     pub room: Room,
 }
 
@@ -146,6 +148,6 @@ impl Case {
             reads.push(Read { flags: read.flags, offset: bytes.len(), length: usize::from(base.is_some()) });
             bytes.extend(base);
         }
-        Case { a: strand(&self.a), b: strand(&self.b), listed: self.listed, reads, bytes, ceiling: self.ceiling, room: [2; 9] }
+        Case { a: strand(&self.a), b: strand(&self.b), listed: self.listed, reads, bytes, ceiling: self.ceiling, limit: self.limit, room: [2; 9] }
     }
 }

@@ -3,6 +3,7 @@ use super::case::{Answer, Case, Outputs};
 use super::compare::{Names, Run};
 use super::draw::{CEILINGS_OUTSIDE, Draw};
 use super::encoded::{self, Encoded, EncodedStrand, OUTPUT_WIDTHS, WIDTHS};
+use super::library::{PRODUCTS, Product};
 use super::{library, rust, table, written};
 
 const CEILINGS: std::ops::RangeInclusive<u8> = 3..=93;
@@ -12,7 +13,7 @@ const COMBINED: Names = [
 ];
 
 // A case that bytes can say too: no read has more bases than the length of a field leaves.
-fn case_of(draw: &mut Draw) -> Case {
+pub fn case_of(draw: &mut Draw) -> Case {
     loop {
         let case = draw.case();
         if !case.listed || case.reads.iter().all(|read| read.length <= 65_533) {
@@ -55,7 +56,7 @@ fn record(run: &mut Run, case: &Case) {
     let bytes = encoded::encoded(case);
     let (mut must_bytes, mut is_bytes) = (encoded::filled(&bytes.room), encoded::filled(&bytes.room));
     encoded::put(&mut must_bytes, answer, case, &must);
-    let ours = encoded::duplex_consensus(&bytes, &mut is_bytes);
+    let ours = encoded::consensus(Product::Batch, &bytes, &mut is_bytes);
     run.count("every ceiling, over bytes", 1);
     if ours != answer || is_bytes != must_bytes {
         run.wrong(&format!("the ceiling {}, over bytes: {ours:?} of {case:?}", case.ceiling));
@@ -66,7 +67,7 @@ fn record(run: &mut Run, case: &Case) {
     }
 }
 
-// ---- faults over bytes: rows 13, 14, 7, 8, 9 and 12
+// ---- faults over bytes: rows 13, 14, 7, 19, 8, 9 and 12
 
 // How many reads a run has; None where it is broken.
 fn reads_in(run: &[u8]) -> Option<usize> {
@@ -87,8 +88,8 @@ fn looked_at(s: &EncodedStrand) -> impl Iterator<Item = (&[u8], usize)> {
     s.arrays.iter().map(Vec::as_slice).zip(WIDTHS).take(arrays)
 }
 
-// The row that refuses what is given, whatever the outputs.
-fn input_refused(m: &Encoded) -> Option<u8> {
+// The row that refuses what is given by a limit, whatever the outputs.
+fn input_refused(m: &Encoded, limit: u16) -> Option<u8> {
     let any = |met: &dyn Fn(&EncodedStrand, usize, usize) -> bool| {
         m.strands.iter().any(|s| looked_at(s).any(|(array, width)| met(s, array.len(), width)))
     };
@@ -97,6 +98,7 @@ fn input_refused(m: &Encoded) -> Option<u8> {
         (13, reads.is_none() || any(&|_, length, width| length % width != 0)),
         (14, !CEILINGS.contains(&m.ceiling)),
         (7, any(&|_, length, width| length / width > 1024)),
+        (19, any(&|_, length, width| length / width > limit.into())),
         (8, any(&|s, length, width| length / width != s.arrays[0].len())),
         (9, reads.is_some_and(|reads| reads > 1024)),
     ])
@@ -120,7 +122,7 @@ fn differ(m: &Encoded, other: &Encoded) -> bool {
     m.listed && m.run != other.run || strands.into_iter().any(|(s, t)| !looked_at(s).eq(looked_at(t)))
 }
 
-const ROWS: [u8; 6] = [9, 13, 7, 8, 12, 14];
+const ROWS: [u8; 7] = [9, 13, 7, 8, 12, 14, 19];
 
 fn spoil(draw: &mut Draw, m: &mut Encoded, row: u8) {
     let (s, k, output) = (draw.below(2), draw.below(5), draw.below(5));
@@ -130,6 +132,7 @@ fn spoil(draw: &mut Draw, m: &mut Encoded, row: u8) {
         13 if WIDTHS[k] > 1 => array.truncate(array.len().saturating_sub(1)),
         13 => m.run.push(0x30),
         14 => m.ceiling = draw.pick(&CEILINGS_OUTSIDE),
+        19 => m.limit = draw.limit_below(m.strands[s].arrays[0].len()),
         7 => array.resize(WIDTHS[k] * draw.pick(&[1025, 1026, 1100]), b'A'),
         8 => array.resize(array.len() / WIDTHS[k] * WIDTHS[k] + WIDTHS[k], b'A'),
         9 => m.run = encoded::read(0x41, b"A").repeat(1025),
@@ -148,23 +151,31 @@ pub fn faults_of_bytes(run: &mut Run, draw: &mut Draw, count: usize) {
                 spoil(draw, &mut m, row);
             }
         }
-        let (mut must, mut is) = (encoded::filled(&m.room), encoded::filled(&m.room));
-        let answer = match input_refused(&m) {
-            Some(row) => Answer::Refused(row),
-            // A byte was cut and another one put in its place: a good input, and not the case's.
-            None if differ(&m, &sound) => continue,
-            None if too_short(&m, &case) => Answer::Refused(12),
-            None => {
-                let (answer, record) = ruled(&case);
-                encoded::put(&mut must, answer, &case, &record);
-                answer
-            }
-        };
-        let ours = encoded::duplex_consensus(&m, &mut is);
-        run.count_refusal(answer, "faults over bytes that are none");
-        if ours != answer || is != must {
-            run.wrong(&format!("faults over bytes: must be {answer:?}, is {ours:?} of {m:?}"));
+        for product in PRODUCTS {
+            m.room = std::array::from_fn(|k| m.room[k].min(OUTPUT_WIDTHS[k] * product.places()));
+            fault_of_bytes(run, product, &m, &case, &sound);
         }
+    }
+}
+
+// `m` is the case as bytes, some of them spoiled; `sound` is as it was.
+fn fault_of_bytes(run: &mut Run, product: Product, m: &Encoded, case: &Case, sound: &Encoded) {
+    let (mut must, mut is) = (encoded::filled(&m.room), encoded::filled(&m.room));
+    let answer = match input_refused(m, product.limit(m.limit)) {
+        Some(row) => Answer::Refused(row),
+        // A byte was cut and another one put in its place: a good input, and not the case's.
+        None if differ(m, sound) => return,
+        None if too_short(m, case) => Answer::Refused(12),
+        None => {
+            let (answer, record) = ruled(case);
+            encoded::put(&mut must, answer, case, &record);
+            answer
+        }
+    };
+    let ours = encoded::consensus(product, m, &mut is);
+    run.count_refusal(answer, "faults over bytes that are none");
+    if ours != answer || is != must {
+        run.wrong(&format!("faults over bytes, {product:?}: must be {answer:?}, is {ours:?} of {m:?}"));
     }
 }
 

@@ -1,7 +1,7 @@
 // The runs: inputs of many kinds, what each must give by the Rust or by the refusal table, and what ours gives.
 use super::case::{Answer, Case, Outputs, Strand};
 use super::draw::{Draw, LETTERS, MARKS, QUALITIES, ROWS};
-use super::{ceiling, library, rust, table};
+use super::{ceiling, library, limit, rust, table};
 use std::collections::BTreeMap;
 use std::panic::{AssertUnwindSafe, catch_unwind};
 
@@ -86,6 +86,7 @@ impl Run {
             Answer::Refused(12) => "refused by row 12",
             Answer::Refused(13) => "refused by row 13",
             Answer::Refused(14) => "refused by row 14",
+            Answer::Refused(19) => "refused by row 19",
             _ => otherwise,
         };
         self.count(name, 1);
@@ -196,7 +197,7 @@ impl Run {
                 };
                 let (a, b) = (strand(draw, 0), strand(draw, 1));
                 let room = draw.room(n, annotation[0] != 0, annotation[1] != 0);
-                let mut case = Case { a, b, listed: false, reads: Vec::new(), bytes: Vec::new(), ceiling: 93, room };
+                let mut case = Case { a, b, listed: false, reads: Vec::new(), bytes: Vec::new(), ceiling: 93, limit: 1024, room };
                 self.check("all pairs of bases, no list", &case);
                 case.listed = true;
                 self.check("all pairs of bases, an empty list", &case);
@@ -296,7 +297,7 @@ impl Run {
             let style = draw.below(4);
             let a = draw.strand(n, style);
             let room = draw.room(n, a.annotation != 0, false);
-            let mut case = Case { a, b: Strand::default(), listed: false, reads: Vec::new(), bytes: Vec::new(), ceiling: 93, room };
+            let mut case = Case { a, b: Strand::default(), listed: false, reads: Vec::new(), bytes: Vec::new(), ceiling: 93, limit: 1024, room };
             if draw.chance(4) {
                 for row in [7, 8, 12] {
                     if draw.chance(2) {
@@ -370,11 +371,16 @@ pub fn main(seed: u64, count: usize) -> bool {
     ceiling::records(&mut run, &mut Draw::new(seed + 6), count / 100);
     ceiling::faults_of_bytes(&mut run, &mut Draw::new(seed + 7), count / 10);
     let other_ceilings = ceiling::self_test(&mut Draw::new(seed + 8));
+    limit::records(&mut run, &mut Draw::new(seed + 9), count / 10);
+    let other_limits = limit::self_test();
     for (name, count) in &run.counts {
         println!("{name:50} {count:>12}");
     }
-    println!("self-test: with one place changed in each of 9 outputs, {seen} differences; with each of 90 ceilings one higher, {other_ceilings}");
+    println!(
+        "self-test: with one place changed in each of 9 outputs, {seen} differences; with each of 90 ceilings one higher, {other_ceilings}; \
+         with each of 1024 limits one higher, {other_limits}"
+    );
     let records = run.counts.iter().filter(|(name, _)| !name.starts_with("positions")).map(|(_, n)| n).sum::<u64>();
     println!("{records} comparisons, {} differences", run.differences);
-    run.differences == 0 && records > 0 && seen == 9 && other_ceilings == 90
+    run.differences == 0 && records > 0 && seen == 9 && other_ceilings == 90 && other_limits == 1024
 }

@@ -195,7 +195,7 @@ impl Draw {
         }
     }
 
-    // An input that no row refuses, at 93.
+    // An input that no row refuses, at 93 and 1,024.
     pub fn case(&mut self) -> Case {
         let style = self.below(4);
         let n = self.positions();
@@ -241,7 +241,7 @@ impl Draw {
             reads.extend(vec![Read { flags, offset: usize::MAX, length: 2 }; self.pick(&[1, 1030])]);
         }
         let room = self.room_of(&a, &b);
-        Case { a, b, listed, reads, bytes, ceiling: 93, room }
+        Case { a, b, listed, reads, bytes, ceiling: 93, limit: 1024, room }
     }
 
     // Thresholds near the two strands' largest depths.
@@ -258,11 +258,11 @@ impl Draw {
 }
 
 // The rows that an input can be made to break, and one way to break each.
-pub const ROWS: [u8; 6] = [7, 8, 9, 10, 12, 14];
+pub const ROWS: [u8; 7] = [7, 8, 9, 10, 12, 14, 19];
 
 pub const CEILINGS_OUTSIDE: [u8; 5] = [0, 1, 2, 94, 255];
 
-fn lengthen(strand: &mut Strand, array: usize, n: usize) {
+pub fn lengthen(strand: &mut Strand, array: usize, n: usize) {
     match array {
         0 => strand.bases.resize(n, b'A'),
         1 => strand.quals.resize(n, 30),
@@ -275,6 +275,23 @@ fn lengthen(strand: &mut Strand, array: usize, n: usize) {
 }
 
 impl Draw {
+    // A limit below so many positions, where there are any.
+    pub fn limit_below(&mut self, positions: usize) -> u16 {
+        let any = self.below(positions.max(1));
+        self.pick(&[positions.saturating_sub(1), positions.saturating_sub(1), any, 0]) as u16
+    }
+
+    // A limit near the strands' lengths, or any.
+    pub fn limit(&mut self, case: &Case) -> u16 {
+        let near = if self.chance(2) { &case.a } else { &case.b }.bases.len();
+        match self.below(6) {
+            0 => self.next() as u16,
+            1 => self.below(1030) as u16,
+            2 => self.pick(&[0, 1, 255, 256, 257, 1023, 1024, 1025]),
+            _ => (near + self.below(3)).saturating_sub(1) as u16,
+        }
+    }
+
     // Mostly an array that is looked at; otherwise any.
     fn some_array(&mut self, case: &mut Case, n: usize) {
         let strand = if self.chance(2) { &mut case.a } else { &mut case.b };
@@ -299,6 +316,7 @@ impl Draw {
                 self.some_array(case, n.min(1024));
             }
             14 => case.ceiling = self.pick(&CEILINGS_OUTSIDE),
+            19 => case.limit = self.limit_below(near),
             9 => {
                 let read = Read { flags: 0, offset: 0, length: 0 };
                 case.reads.resize(self.pick(&[1025, 1026, 1100]), read);

@@ -1,6 +1,7 @@
 // A molecule as bytes, and the library's call on it.
 use super::case::{Answer, Case, Outputs, Read, Strand};
-use gedrashiw::bytes::{CountBytes, RecordBytesOut, StrandBytes, duplex_consensus_into};
+use super::library::Product;
+use gedrashiw::bytes::{CountBytes, RecordBytesOut, StrandBytes, duplex_consensus_into, preview_consensus_into};
 use gedrashiw::methylation::ConversionPattern;
 use gedrashiw::{Kind, Record, Settings};
 
@@ -22,6 +23,7 @@ pub struct Encoded {
     pub listed: bool,
     pub run: Vec<u8>,
     pub ceiling: u8,
+    pub limit: u16,
     // The lengths of the outputs: bases, quals, errors, and the evidence of A and of B.
     pub room: [usize; 5],
 }
@@ -49,6 +51,7 @@ pub fn encoded(case: &Case) -> Encoded {
         listed: case.listed,
         run: if case.listed { case.reads.iter().flat_map(of).collect() } else { vec![0x31; case.bytes.len()] },
         ceiling: case.ceiling,
+        limit: case.limit,
         room: [bases, quals, 2 * errors, 9 * first, 9 * second],
     }
 }
@@ -93,12 +96,17 @@ pub fn put(out: &mut ByteOutputs, answer: Answer, case: &Case, record: &Outputs)
 }
 
 #[inline]
-pub fn duplex_consensus(m: &Encoded, out: &mut ByteOutputs) -> Answer {
+pub fn consensus(product: Product, m: &Encoded, out: &mut ByteOutputs) -> Answer {
     let [bases, quals, errors, first_evidence, second_evidence] = out;
     let mut lent = RecordBytesOut { bases, quals, errors, first_evidence, second_evidence };
     let [a, b] = m.strands.each_ref().map(EncodedStrand::lent);
     let list = m.listed.then_some(&m.run[..]);
-    match duplex_consensus_into(Settings { ceiling: m.ceiling }, a.as_ref(), b.as_ref(), list, &mut lent) {
+    let settings = Settings { ceiling: m.ceiling, limit: m.limit };
+    let made = match product {
+        Product::Batch => duplex_consensus_into(settings, a.as_ref(), b.as_ref(), list, &mut lent),
+        Product::Preview => preview_consensus_into(settings, a.as_ref(), b.as_ref(), list, &mut lent),
+    };
+    match made {
         Err(refusal) => Answer::Refused(refusal.number()),
         Ok(None) => Answer::NoRecord,
         Ok(Some(Record { kind: Kind::Ab, positions })) => Answer::Ab(positions),

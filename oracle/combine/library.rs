@@ -28,24 +28,61 @@ fn lent(out: &mut Outputs) -> (ConsensusOut<'_>, EvidenceOut<'_>, EvidenceOut<'_
     )
 }
 
+fn settings(case: &Case) -> Settings {
+    Settings { ceiling: case.ceiling, limit: case.limit }
+}
+
 // The reads as they are lent.
 pub fn reads(reads: &[Read]) -> Vec<SourceRead> {
     reads.iter().map(|&Read { flags, offset, length }| SourceRead { flags, offset, length }).collect()
 }
 
+// The batch product's call, and the preview's, which take the same.
+#[derive(Clone, Copy, Debug, PartialEq)]
+pub enum Product {
+    Batch,
+    Preview,
+}
+
+pub const PRODUCTS: [Product; 2] = [Product::Batch, Product::Preview];
+
+impl Product {
+    // The limit that counts.
+    pub fn limit(self, limit: u16) -> u16 {
+        if self == Product::Preview { limit.min(256) } else { limit }
+    }
+
+    // No output needs more places.
+    pub fn places(self) -> usize {
+        usize::from(self.limit(1024))
+    }
+}
+
 pub fn duplex_consensus(case: &Case, out: &mut Outputs) -> Answer {
-    with_reads(case, &reads(&case.reads), out)
+    consensus(Product::Batch, case, out)
+}
+
+pub fn consensus(product: Product, case: &Case, out: &mut Outputs) -> Answer {
+    made(product, case, &reads(&case.reads), out)
 }
 
 #[inline]
 pub fn with_reads(case: &Case, reads: &[SourceRead], out: &mut Outputs) -> Answer {
-    let &Case { ref a, ref b, listed, ref bytes, ceiling, .. } = case;
+    made(Product::Batch, case, reads, out)
+}
+
+#[inline]
+fn made(product: Product, case: &Case, reads: &[SourceRead], out: &mut Outputs) -> Answer {
+    let &Case { ref a, ref b, listed, ref bytes, .. } = case;
     let strands = [a, b].map(|s| s.present.then(|| strand(s)));
     let list = listed.then_some(SourceReads { reads, bytes });
     let (mut written, mut first, mut second) = lent(out);
     let [a, b] = strands.each_ref().map(Option::as_ref);
-    let settings = Settings { ceiling };
-    match DuplexConsensusCaller::duplex_consensus_into(settings, a, b, list, &mut written, &mut first, &mut second) {
+    let call = match product {
+        Product::Batch => DuplexConsensusCaller::duplex_consensus_into,
+        Product::Preview => DuplexConsensusCaller::preview_consensus_into,
+    };
+    match call(settings(case), a, b, list, &mut written, &mut first, &mut second) {
         Err(refusal) => Answer::Refused(refusal.number()),
         Ok(None) => Answer::NoRecord,
         Ok(Some(Record { kind: Kind::Ab, positions })) => Answer::Ab(positions),
@@ -56,7 +93,7 @@ pub fn with_reads(case: &Case, reads: &[SourceRead], out: &mut Outputs) -> Answe
 
 // Two strands combined, as a caller does who has decided that both are there: with their annotations, or of strands without.
 pub fn combine_strands(case: &Case, annotated: bool, out: &mut Outputs) -> Answer {
-    let (a, b, settings) = (strand(&case.a), strand(&case.b), Settings { ceiling: case.ceiling });
+    let (a, b, settings) = (strand(&case.a), strand(&case.b), settings(case));
     let (mut written, mut first, mut second) = lent(out);
     let combined = if annotated {
         DuplexConsensusCaller::combine_strands_annotated_into(settings, &a, &b, case.listed, &mut written, &mut first, &mut second)

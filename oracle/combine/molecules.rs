@@ -40,5 +40,5 @@ pub fn molecule(draw: &mut Draw, kind: Kind) -> Case {
         let own = if last { &b.bases } else { &a.bases };
         bytes.extend(own.iter().map(|&base| if draw.chance(100) { draw.pick(b"ACGTN") } else { base }));
     }
-    Case { a, b, listed: kind.reads.is_some(), reads, bytes, ceiling: 93, room: [n; 9] }
+    Case { a, b, listed: kind.reads.is_some(), reads, bytes, ceiling: 93, limit: 1024, room: [n; 9] }
 }

@@ -24,6 +24,9 @@ mod encoded {
 mod ceiling {
     include!("ceiling.rs");
 }
+mod limit {
+    include!("limit.rs");
+}
 mod compare {
     include!("compare.rs");
 }

@@ -6,6 +6,10 @@ fn too_long(s: &Strand) -> bool {
     s.lengths().iter().any(|&n| n > 1024)
 }
 
+fn over(s: &Strand, limit: u16) -> bool {
+    s.lengths().iter().any(|&n| n > usize::from(limit))
+}
+
 fn ragged(s: &Strand) -> bool {
     s.lengths().iter().any(|&n| n != s.bases.len())
 }
@@ -29,12 +33,18 @@ pub fn kind(a: &Strand, b: &Strand) -> Answer {
 }
 
 pub fn duplex_consensus(case: &Case) -> Option<u8> {
-    let Case { a, b, listed, reads, bytes, ceiling, room } = case;
+    consensus(case, case.limit)
+}
+
+// By another limit than the case has.
+pub fn consensus(case: &Case, limit: u16) -> Option<u8> {
+    let Case { a, b, listed, reads, bytes, ceiling, room, .. } = case;
     let strands: Vec<&Strand> = [a, b].into_iter().filter(|s| s.present).collect();
     let leaves = |offset: usize, length: usize| offset as u128 + length as u128 > bytes.len() as u128;
     let input = first(&[
         (14, !(3..=93).contains(ceiling)),
         (7, strands.iter().any(|s| too_long(s))),
+        (19, strands.iter().any(|s| over(s, limit))),
         (8, strands.iter().any(|s| ragged(s))),
         (9, *listed && reads.len() > 1024),
         (10, *listed && reads.iter().any(|r| leaves(r.offset, r.length))),

@@ -1,5 +1,5 @@
-// The written rule of a record: document 01's, with a lab's ceiling in the place of 93 (document 02, request 102). From their words, short and
-// slow: neither the Rust's code nor ours.
+// The written rule of a record: document 01's, with a lab's ceiling in the place of 93 (document 02, request 102), and over which limit there is
+// none (request 106). From their words, short and slow: neither the Rust's code nor ours.
 use super::case::{Answer, Case, Outputs, Strand};
 use super::table;
 
@@ -109,6 +109,18 @@ fn alone(s: &Strand, n: usize, out: &mut Outputs) {
     for i in (0..n).filter(|_| s.annotation != 0) {
         put_evidence(out, 0, s, i, s.marks[i] != 0);
     }
+}
+
+// Whether row 19 is met: a strand that is there has an array of more positions than the limit. Evidence is one only with an annotation. A
+// preview's limit is at most 256.
+pub fn over_limit(case: &Case, preview: bool) -> bool {
+    let limit = if preview && case.limit > 256 { 256 } else { case.limit };
+    let over = |length: usize| length > limit.into();
+    let strand_over = |s: &Strand| {
+        let evidence = over(s.marks.len()) || over(s.unconverted.len()) || over(s.converted.len());
+        over(s.bases.len()) || over(s.quals.len()) || over(s.depths.len()) || over(s.errors.len()) || s.annotation != 0 && evidence
+    };
+    case.a.present && strand_over(&case.a) || case.b.present && strand_over(&case.b)
 }
 
 // The record of a case that no row refuses, put into its outputs.

@@ -151,6 +151,7 @@ pub fn molecule(bytes: &[u8]) -> Molecule {
             reads,
             bytes: buffer,
             ceiling: 93,
+            limit: 1024,
             room: [MOST_POSITIONS; 9],
         },
     }

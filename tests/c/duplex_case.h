@@ -1,5 +1,5 @@
-/* A case of the combination's entry: its bytes, what is expected, the call and the comparison; and of the same strands the reasons for N,
- * by their entry, at many positions. Every array lies against unreadable
+/* A case of the combination's entry: its bytes, what is expected, the call and the comparison; the same by the preview's entry, with outputs
+ * of no more than 256 places; and of the same strands the reasons for N, by their entry, at many positions. Every array lies against unreadable
  * pages (guarded.h): once it ends where a page ends, once it starts where one starts, and once a null pointer stands for each empty
  * one. After every case each output is compared whole, its places past the record too, and each input with what it was. */
 #ifndef DUPLEX_CASE_H
@@ -9,7 +9,7 @@
 #include "reference.h"
 
 static struct block inputs[DUPLEX_INPUTS], outputs[OUTPUTS];
-static uint64_t nulls; /* which inputs and outputs were passed as a null pointer, a bit each */
+static uint64_t nulls[PRODUCTS]; /* which inputs and outputs were passed as a null pointer, a bit each */
 
 static const char *const output_names[OUTPUTS] = {"bases_out", "quals_out", "errors_out", "a_evidence_out", "b_evidence_out"};
 
@@ -27,32 +27,33 @@ static void ask(const char *name, const struct duplex_given *placed, size_t posi
     }
 }
 
-/* Passes g with every array in its place; compares the answer, all of the outputs, and the inputs. */
+/* Passes g to its entry with every array in its place; compares the answer, all of the outputs, and the inputs. */
 static void run_at(const char *name, const struct duplex_given *g, const struct duplex_wanted *w, int place)
 {
+    static const char *const products[] = {"", ", in a preview"};
     struct duplex_given placed = *g;
     uint8_t *out[OUTPUTS];
     for (int k = 0; k < DUPLEX_INPUTS; k++) {
         struct array *in = duplex_input(&placed, k);
         block_input(&inputs[k], in->at, in->len, place);
         in->at = block_passed(&inputs[k], place);
-        nulls |= (uint64_t)block_is_null(&inputs[k], place) << k;
+        nulls[g->product] |= (uint64_t)block_is_null(&inputs[k], place) << k;
     }
     for (int k = 0; k < OUTPUTS; k++) {
         block_output(&outputs[k], g->room[k], place);
         memcpy(block_noted(&outputs[k]), w->out[k], w->written[k]);
         out[k] = block_passed(&outputs[k], place);
-        nulls |= (uint64_t)block_is_null(&outputs[k], place) << (DUPLEX_INPUTS + k);
+        nulls[g->product] |= (uint64_t)block_is_null(&outputs[k], place) << (DUPLEX_INPUTS + k);
     }
 
     struct gedrashiw_duplex_record r = duplex_call(&placed, out);
-    for (int k = 0; k < ASKED; k++)
+    for (int k = 0; g->product == BATCH && k < ASKED; k++)
         ask(name, &placed, asked_position(&placed, k));
 
     checks++;
     if (r.refused != w->refused || r.kind != w->kind || r.positions != w->positions) {
-        printf("%s: refused %u, kind %u, %zu positions; expected %u, %u, %zu\n", name, r.refused, r.kind, r.positions, w->refused,
-               w->kind, w->positions);
+        printf("%s%s: refused %u, kind %u, %zu positions; expected %u, %u, %zu\n", name, products[g->product], r.refused, r.kind, r.positions,
+               w->refused, w->kind, w->positions);
         failures++;
     }
     for (int k = 0; k < OUTPUTS; k++) {
@@ -67,21 +68,42 @@ static void run_at(const char *name, const struct duplex_given *g, const struct 
         check(name, block_as_noted(&inputs[k]), "an input was written to");
 }
 
-static void run(const char *name, const struct duplex_given *g, const struct duplex_wanted *w)
-{
-    for (int place = 0; place < PLACES; place++)
-        run_at(name, g, w, place);
-}
+/* How often each answer of an entry was expected: kinds of records, and refusals. Of all cases since the start: how many both entries must
+ * answer alike, and how many the preview alone refuses. */
+static long kinds[PRODUCTS][4], refusals[PRODUCTS][GEDRASHIW_OVER_LIMIT + 1], alike, refused_in_a_preview;
 
-/* How often each answer was expected: kinds of records, and refusals. */
-static long kinds[4], refusals[16];
-
-static void tally(const struct duplex_wanted *w)
+static void tally(int product, const struct duplex_wanted *w)
 {
     if (w->refused != 0)
-        refusals[w->refused]++;
+        refusals[product][w->refused]++;
     else
-        kinds[w->kind]++;
+        kinds[product][w->kind]++;
+}
+
+static int same_wanted(const struct duplex_wanted *one, const struct duplex_wanted *two)
+{
+    int same = one->refused == two->refused && one->kind == two->kind && one->positions == two->positions;
+    for (int k = 0; k < OUTPUTS; k++)
+        same = same && one->written[k] == two->written[k] && memcmp(one->out[k], two->out[k], one->written[k]) == 0;
+    return same;
+}
+
+/* Both entries in each place; the outputs stay as the second has left them. Of strands within 256 positions the preview must give what the other gives. */
+static void run(const char *name, const struct duplex_given *g, const struct duplex_wanted *w)
+{
+    static struct duplex_wanted of_preview;
+    struct duplex_given shown = previewed(g);
+    duplex_expected(&shown, &of_preview);
+    tally(PREVIEW, &of_preview);
+    if (longest_array(g) <= MOST_SHOWN) {
+        check(name, same_wanted(&of_preview, w), "a preview of strands within 256 positions would differ");
+        alike++;
+    }
+    refused_in_a_preview += of_preview.refused == 19 && w->refused != 19;
+    for (int place = 0; place < PLACES; place++) {
+        run_at(name, &shown, &of_preview, place);
+        run_at(name, g, w, place);
+    }
 }
 
 static void start_tally(void)
@@ -89,6 +111,7 @@ static void start_tally(void)
     memset(kinds, 0, sizeof kinds);
     memset(refusals, 0, sizeof refusals);
     memset(reasons, 0, sizeof reasons);
+    alike = refused_in_a_preview = 0;
 }
 
 static void all_reasons_occurred(const char *name)
@@ -98,12 +121,12 @@ static void all_reasons_occurred(const char *name)
 }
 
 /* Of the cases since, none is by chance left out. */
-static void all_occurred(const char *name, const int *rows, int count)
+static void all_occurred(const char *name, int product, const int *rows, int count)
 {
     for (int k = 0; k < 4; k++)
-        check(name, kinds[k] > 0, "a kind of record did not occur");
+        check(name, kinds[product][k] > 0, "a kind of record did not occur");
     for (int k = 0; k < count; k++)
-        check(name, refusals[rows[k]] > 0, "a refusal did not occur");
+        check(name, refusals[product][rows[k]] > 0, "a refusal did not occur");
 }
 
 static struct duplex_wanted reckoned; /* by reference.h */
@@ -111,7 +134,7 @@ static struct duplex_wanted reckoned; /* by reference.h */
 static void expected(const char *name, const struct duplex_given *g)
 {
     duplex_expected(g, &reckoned);
-    tally(&reckoned);
+    tally(BATCH, &reckoned);
     run(name, g, &reckoned);
 }
 
@@ -119,10 +142,7 @@ static void expected(const char *name, const struct duplex_given *g)
 static void gives(const char *name, const struct duplex_given *g, const struct duplex_wanted *w)
 {
     duplex_expected(g, &reckoned);
-    int same = reckoned.refused == w->refused && reckoned.kind == w->kind && reckoned.positions == w->positions;
-    for (int k = 0; k < OUTPUTS; k++)
-        same &= reckoned.written[k] == w->written[k] && memcmp(reckoned.out[k], w->out[k], sizeof w->out[k]) == 0;
-    check(name, same, "the two expectations differ");
+    check(name, same_wanted(&reckoned, w), "the two expectations differ");
     run(name, g, w);
 }
 
@@ -167,10 +187,10 @@ static void set_room(struct duplex_given *g, size_t positions)
         g->room[k] = positions * out_width[k];
 }
 
-/* Two strands of so many positions: A, quality 30, depth 1, no errors, no annotation; the ceiling 93. */
+/* Two strands of so many positions: A, quality 30, depth 1, no errors, no annotation; the ceiling 93 and the limit 1,024. */
 static struct duplex_given fresh(size_t a, size_t b)
 {
-    struct duplex_given g = {{{0}}, 0, HIGHEST_CEILING, {reads, 0}, {0}};
+    struct duplex_given g = {BATCH, {{0}}, 0, HIGHEST_CEILING, MOST_POSITIONS, {reads, 0}, {0}};
     memset(store, 0, sizeof store);
     for (int s = 0; s < 2; s++) {
         size_t positions = s == 0 ? a : b;

@@ -1,4 +1,5 @@
-/* Calls gedrashiw_duplex_consensus and gedrashiw_no_call_reason as a C program does (duplex_case.h says how, and what is compared). Expected values are those of
+/* Calls gedrashiw_duplex_consensus, gedrashiw_preview_consensus and gedrashiw_no_call_reason as a C program does (duplex_case.h says how, and what is
+ * compared: every case here is one of both consensus entries). Expected values are those of
  * a reference over the Rust in the fixed list, or written out here, or reference.h's, which must agree with both. */
 #define _DEFAULT_SOURCE
 #include "duplex_case.h"
@@ -390,7 +391,14 @@ static void worked_examples(void)
 
 static size_t some_length(void)
 {
-    return once_in(40) ? 1000 + chance() % 25 : once_in(4) ? chance() % 4 : chance() % 40;
+    return once_in(40) ? 1000 + chance() % 25 : once_in(30) ? 250 + chance() % 12 : once_in(4) ? chance() % 4 : chance() % 40;
+}
+
+/* A limit of any size, or one near the strands' lengths. */
+static uint16_t some_limit(size_t a, size_t b)
+{
+    size_t near = (once_in(2) ? a : b) + chance() % 3;
+    return (uint16_t)(once_in(3) ? chance() : once_in(3) ? chance() % 300 : near > 0 ? near - 1 : 0);
 }
 
 static uint8_t some_byte(uint32_t style, const char *letters)
@@ -475,7 +483,7 @@ static void some_room(struct duplex_given *g)
 
 static void by_chance(int cases)
 {
-    static const int rows[] = {7, 8, 9, 12, 13, 14};
+    static const int rows[] = {7, 8, 9, 12, 13, 14, 19};
     start_tally();
     for (int c = 0; c < cases; c++) {
         size_t a = some_length(), b = once_in(2) ? a : some_length();
@@ -484,6 +492,8 @@ static void by_chance(int cases)
         some_strand(&g, 1);
         if (once_in(2))
             g.ceiling = (uint8_t)(LOWEST_CEILING + chance() % (HIGHEST_CEILING - LOWEST_CEILING + 1));
+        if (once_in(4))
+            g.limit = some_limit(a, b);
         if (once_in(2))
             some_reads(&g);
         for (uint32_t faults = once_in(5) ? 1 + chance() % 3 : 0; faults > 0; faults--)
@@ -491,8 +501,11 @@ static void by_chance(int cases)
         some_room(&g);
         expected("by chance", &g);
     }
-    all_occurred("by chance", rows, 6);
+    for (int product = 0; product < PRODUCTS; product++)
+        all_occurred("by chance", product, rows, 7);
     all_reasons_occurred("by chance");
+    printf("by chance: %d cases, %ld refused as 19; in a preview %ld alike, %ld refused as 19 alone\n", cases, refusals[BATCH][19], alike,
+           refused_in_a_preview);
 }
 
 /* ---- refusals */
@@ -564,6 +577,114 @@ static void each_array(void)
     refuses("1,025 positions", &g, 7);
     g.strand[1].present = 0;
     takes("1,025 positions of an absent strand", &g);
+}
+
+/* ---- limits */
+
+static const uint16_t limits[] = {0, 3, 4, 5, 255, 256, 257, 1023, 1024, 1025, 65535};
+static const size_t lengths_tried[] = {255, 256, 257, 1023, 1024, 1025};
+enum { LIMITS = sizeof limits / sizeof *limits, LENGTHS = sizeof lengths_tried / sizeof *lengths_tried };
+
+/* The row of strands whose longest array has so many positions, the others four: 7 whatever the limit, then 19; or 8, or none. */
+static void limited(const char *name, const struct duplex_given *g, size_t longest, int ragged)
+{
+    if (longest > MOST_POSITIONS)
+        refuses(name, g, 7);
+    else if ((longest > 4 ? longest : 4) > g->limit)
+        refuses(name, g, 19);
+    else if (ragged)
+        refuses(name, g, 8);
+    else
+        takes(name, g);
+}
+
+/* One array of so many positions beside others of four, looked at and not. */
+static void one_array(int k, uint16_t limit, size_t n)
+{
+    struct duplex_given g = sound(4);
+    struct strand *s = &g.strand[k / ARRAYS];
+    g.limit = limit;
+    s->of[k % ARRAYS].len = n * width[k % ARRAYS];
+    limited("one array", &g, n, 1);
+    s->annotated = 0;
+    int evidence = k % ARRAYS == EVIDENCE;
+    limited("one array, no annotation", &g, evidence ? 4 : n, !evidence);
+    s->annotated = 1;
+    s->present = 0;
+    limited("one array of an absent strand", &g, 4, 0);
+    g.strand[1 - k / ARRAYS].present = 0;
+    takes("one array, no strands", &g);
+}
+
+/* All arrays of one strand, or of both, of so many positions. The shorter strand's record would be within any of these limits. */
+static void whole_strands(uint16_t limit, size_t n)
+{
+    for (int which = 1; which < 4; which++) {
+        struct duplex_given g = sound(4);
+        g.limit = limit;
+        for (int k = 0; k < 2 * ARRAYS; k++)
+            if (which >> k / ARRAYS & 1)
+                duplex_input(&g, k)->len = n * width[k % ARRAYS];
+        set_room(&g, n);
+        limited("whole strands", &g, n, 0);
+        for (int s = 0; s < 2; s++) {
+            g.strand[1 - s].present = 0;
+            limited("a whole strand alone", &g, which >> s & 1 ? n : 4, 0);
+            g.strand[1 - s].present = 1;
+        }
+    }
+}
+
+/* Each limit takes a strand of so many positions and refuses one of a position more. */
+static void each_limit(void)
+{
+    for (size_t n = 0; n <= MOST_POSITIONS + 1; n++)
+        for (size_t more = 0; more < 2; more++) {
+            size_t positions = n + more;
+            struct duplex_given g = fresh(positions, 1);
+            g.limit = (uint16_t)n;
+            g.strand[1].present = 0;
+            if (positions > MOST_POSITIONS)
+                refuses("each limit", &g, 7);
+            else if (more > 0)
+                refuses("each limit", &g, 19);
+            else
+                takes("each limit", &g);
+        }
+}
+
+/* What the preview answers, written out: it takes 256 positions, with outputs of 256 places, and refuses 257, whatever the limit of the
+ * other call. */
+static void previews(void)
+{
+    static const uint16_t of_the_batch[] = {256, 257, 1023, 1024, 1025, 65535};
+    static const size_t shown[] = {255, 256, 257, 512, 1023, 1024};
+    for (int l = 0; l < 6; l++)
+        for (int k = 0; k < 6; k++)
+            for (int which = 1; which < 4; which++) {
+                struct duplex_given g = sound(2);
+                for (int a = 0; a < 2 * ARRAYS; a++)
+                    if (which >> a / ARRAYS & 1)
+                        duplex_input(&g, a)->len = shown[k] * width[a % ARRAYS];
+                g.limit = of_the_batch[l];
+                set_room(&g, MOST_SHOWN);
+                struct duplex_given as_shown = previewed(&g);
+                check("a preview", inputs_refused(&as_shown) == (shown[k] > 256 ? 19 : 0), "the two expectations differ");
+                long were = refused_in_a_preview;
+                duplex_expected(&g, &reckoned);
+                run("a preview", &g, &reckoned);
+                check("a preview", (refused_in_a_preview > were) == (shown[k] > 256 && shown[k] <= of_the_batch[l]), "the batch's refusals");
+            }
+}
+
+static void each_size(void)
+{
+    for (int l = 0; l < LIMITS; l++)
+        for (int n = 0; n < LENGTHS; n++) {
+            for (int k = 0; k < 2 * ARRAYS; k++)
+                one_array(k, limits[l], lengths_tried[n]);
+            whole_strands(limits[l], lengths_tried[n]);
+        }
 }
 
 static void patterns(void)
@@ -700,7 +821,12 @@ static void add_fault(struct duplex_given *g, uint8_t row, int way)
         reads[g->reads.len++] = READ_TAG;
     else if (row == 14)
         g->ceiling = outside[way];
-    else if (row == 7)
+    else if (row == 19 && way < 2)
+        g->limit = (uint16_t)(3 * way);
+    else if (row == 19) {
+        g->limit = 256;
+        other->of[ERRORS].len = 257 * width[ERRORS];
+    } else if (row == 7)
         for (int k = first_long[way]; k < ARRAYS; k++)
             other->of[k].len = 1025 * width[k];
     else if (row == 8)
@@ -709,26 +835,27 @@ static void add_fault(struct duplex_given *g, uint8_t row, int way)
         g->room[short_output[way]] -= 1;
 }
 
-/* Every choice of faults: the first in the order 13, 14, 7, 8, 9, 12 is answered. */
+/* Every choice of faults: the first in the order 13, 14, 7, 19, 8, 9, 12 is answered. */
 static void several_faults(void)
 {
-    static const uint8_t order[] = {13, 14, 7, 8, 9, 12}, added[] = {9, 13, 7, 8, 12, 14};
-    for (int faults = 0; faults < 64; faults++)
+    static const uint8_t order[] = {13, 14, 7, 19, 8, 9, 12}, added[] = {9, 13, 7, 19, 8, 12, 14};
+    enum { FAULTS = sizeof order };
+    for (int faults = 0; faults < 1 << FAULTS; faults++)
         for (int way = 0; way < 3; way++) {
             struct duplex_given g = sound(4);
-            int met[16] = {0}, first = 0;
-            for (int k = 0; k < 6; k++)
+            int met[GEDRASHIW_OVER_LIMIT + 1] = {0}, first = 0;
+            for (int k = 0; k < FAULTS; k++)
                 met[order[k]] = faults >> k & 1;
-            for (int k = 0; k < 6; k++)
+            for (int k = 0; k < FAULTS; k++)
                 if (met[added[k]])
                     add_fault(&g, added[k], way);
-            while (first < 6 && !met[order[first]])
+            while (first < FAULTS && !met[order[first]])
                 first++;
-            if (first == 6)
+            if (first == FAULTS)
                 takes("no fault", &g);
             else
                 refuses("several faults", &g, order[first]);
-            /* Of strands that are absent and a list that is none, none of these is a fault, but the ceiling. */
+            /* Of strands that are absent and a list that is none, none of these is a fault, but the ceiling: a limit is one of strands. */
             g.strand[0].present = g.strand[1].present = g.listed = 0;
             if (met[14])
                 refuses("several faults, not looked at but the ceiling", &g, 14);
@@ -762,6 +889,7 @@ static void not_looked_at(void)
     for (int c = 0; c < 300; c++) {
         int s = c % 2;
         struct duplex_given g = fresh(6, 6);
+        g.limit = (uint16_t)(once_in(2) ? 6 + chance() % 3 : MOST_POSITIONS);
         some_strand(&g, 1 - s);
         g.strand[1 - s].present = 1;
         for (int k = 0; k < ARRAYS; k++) {
@@ -865,9 +993,9 @@ static void fixed_list(const char *molecules, const char *lines)
         snprintf(name, sizeof name, "the fixed list, molecule %d", ++number);
         counts[compare_molecule(name, bytes, len, next_line(l))]++;
     }
-    all_occurred(molecules, rows, 4);
-    printf("the fixed list: %d molecules compared; %d refused as 13 by what no entry sees, %d by their thresholds\n",
-           counts[COMPARED], counts[UNSEEN], counts[OF_THRESHOLDS]);
+    all_occurred(molecules, BATCH, rows, 4);
+    printf("the fixed list: %d molecules compared; %d refused as 13 by what no entry sees, %d by their thresholds; in a preview %ld alike\n",
+           counts[COMPARED], counts[UNSEEN], counts[OF_THRESHOLDS], alike);
     fclose(m);
     fclose(l);
 }
@@ -886,11 +1014,15 @@ int main(int words, char **word)
     patterns();
     runs();
     output_lengths();
+    each_size();
+    each_limit();
+    previews();
     several_faults();
     each_ceiling();
     not_looked_at();
-    nulls_were_passed("gedrashiw_duplex_consensus", DUPLEX_INPUTS + OUTPUTS, nulls);
-    tell_nulls(2 * DUPLEX_INPUTS - 1 + OUTPUTS); /* the reason takes the same, but no run */
-    printf("gedrashiw_duplex_consensus, gedrashiw_no_call_reason: %ld checks, %ld failures\n", checks, failures);
+    nulls_were_passed("gedrashiw_duplex_consensus", DUPLEX_INPUTS + OUTPUTS, nulls[BATCH]);
+    nulls_were_passed("gedrashiw_preview_consensus", DUPLEX_INPUTS + OUTPUTS, nulls[PREVIEW]);
+    tell_nulls(PRODUCTS * (DUPLEX_INPUTS + OUTPUTS) + DUPLEX_INPUTS - 1); /* the reason takes a strand's arrays, but no run and no outputs */
+    printf("gedrashiw_duplex_consensus, gedrashiw_preview_consensus, gedrashiw_no_call_reason: %ld checks, %ld failures\n", checks, failures);
     return failures == 0 ? 0 : 1;
 }

@@ -6,7 +6,7 @@
 #include "gedrashiw.h"
 #include "guarded.h"
 
-enum { MOST_NUMBERS = 1030, MOST_BLOCKS = 40, MOST_BLOCK = 32768, MOST_OUTPUTS = 16, ROWS = GEDRASHIW_CEILING_OUTSIDE + 1 };
+enum { MOST_NUMBERS = 1030, MOST_BLOCKS = 40, MOST_BLOCK = 32768, MOST_OUTPUTS = 16, ROWS = GEDRASHIW_OVER_LIMIT + 1 };
 
 struct list {
     size_t n;
@@ -189,6 +189,15 @@ static inline uint8_t some_ceiling(void)
 {
     static const uint8_t limits[] = {0, 1, 2, 3, 60, 92, 93, 93, 93, 94, 255};
     return once_in(8) ? limits[chance() % sizeof limits] : (uint8_t)(GEDRASHIW_MIN_CEILING + chance() % 91);
+}
+
+/* A limit of positions, most often 1,024, else near some strand's length. */
+static inline uint16_t some_limit(size_t n)
+{
+    static const uint16_t limits[] = {0, 1, 2, 255, 256, 257, 1021, 1022, 1023, 1024, 1025, 65535};
+    if (!once_in(5))
+        return GEDRASHIW_MAX_POSITIONS;
+    return once_in(2) ? limits[chance() % (sizeof limits / sizeof *limits)] : (uint16_t)(n + chance() % 3 - (n > 0));
 }
 
 static inline uint8_t some_answer(void) /* no, yes, or another number that is yes */

@@ -61,6 +61,7 @@ static inline int split_molecule(const uint8_t *bytes, size_t len, struct molecu
     memset(m, 0, sizeof *m);
     m->given.reads.at = bytes;
     m->given.ceiling = HIGHEST_CEILING;
+    m->given.limit = MOST_POSITIONS;
     for (int k = 0; k < OUTPUTS; k++)
         m->given.room[k] = MOST_POSITIONS * out_width[k];
     int last = 0;

@@ -7,7 +7,7 @@
 
 #include <string.h>
 
-enum { MOST_POSITIONS = 1024, MOST_READS = 1024, CAP = 32767, LOWEST_CEILING = 3, HIGHEST_CEILING = 93 };
+enum { MOST_POSITIONS = 1024, MOST_SHOWN = 256, MOST_READS = 1024, CAP = 32767, LOWEST_CEILING = 3, HIGHEST_CEILING = 93 };
 
 struct array {
     const uint8_t *at;
@@ -139,9 +139,14 @@ struct strand {
     struct array of[ARRAYS];
 };
 
+/* The two entries, which take the same. */
+enum { BATCH, PREVIEW, PRODUCTS };
+
 struct duplex_given {
+    int product;
     struct strand strand[2];
     uint8_t listed, ceiling;
+    uint16_t limit;
     struct array reads;
     size_t room[OUTPUTS];
 };
@@ -221,21 +226,50 @@ static inline int held(int qual, uint8_t ceiling)
     return qual < 2 ? 2 : qual > ceiling ? ceiling : qual;
 }
 
-/* Rows 13, 14, 7, 8 and 9, over all that is given. */
-static inline uint8_t inputs_refused(const struct duplex_given *g)
+/* The most positions that an array has of those that are looked at. */
+static inline size_t longest_array(const struct duplex_given *g)
 {
-    int too_long = 0, ragged = 0;
+    size_t longest = 0;
     for (const struct strand *s = g->strand; s < g->strand + 2; s++)
         for (int k = 0; k < ARRAYS; k++)
-            if (looked_at(s, k)) {
-                too_long |= s->of[k].len / width[k] > MOST_POSITIONS;
-                ragged |= s->of[k].len / width[k] != s->of[BASES].len;
-            }
+            if (looked_at(s, k) && s->of[k].len / width[k] > longest)
+                longest = s->of[k].len / width[k];
+    return longest;
+}
+
+/* The limit that counts: a preview's is at most 256 (request 106 of document 02). */
+static inline size_t limit_of(const struct duplex_given *g)
+{
+    return g->product == PREVIEW && g->limit > MOST_SHOWN ? MOST_SHOWN : g->limit;
+}
+
+/* Rows 13, 14, 7, 19, 8 and 9, over all that is given. */
+static inline uint8_t inputs_refused(const struct duplex_given *g)
+{
+    int ragged = 0;
+    for (const struct strand *s = g->strand; s < g->strand + 2; s++)
+        for (int k = 0; k < ARRAYS; k++)
+            ragged |= looked_at(s, k) && s->of[k].len / width[k] != s->of[BASES].len;
     if (duplex_broken(g))
         return 13;
     if (ceiling_outside(g->ceiling))
         return 14;
-    return too_long ? 7 : ragged ? 8 : g->listed && reads_in(g->reads) > MOST_READS ? 9 : 0;
+    if (longest_array(g) > MOST_POSITIONS)
+        return 7;
+    if (longest_array(g) > limit_of(g))
+        return 19;
+    return ragged ? 8 : g->listed && reads_in(g->reads) > MOST_READS ? 9 : 0;
+}
+
+/* The same for the preview's entry, with outputs of no more than 256 places, which is all that it ever needs. */
+static inline struct duplex_given previewed(const struct duplex_given *g)
+{
+    struct duplex_given shown = *g;
+    shown.product = PREVIEW;
+    for (int k = 0; k < OUTPUTS; k++)
+        if (shown.room[k] > MOST_SHOWN * out_width[k])
+            shown.room[k] = MOST_SHOWN * out_width[k];
+    return shown;
 }
 
 static inline int covered(const struct strand *s, size_t positions)
@@ -400,8 +434,8 @@ static inline struct gedrashiw_duplex_record duplex_call(const struct duplex_giv
 {
     const struct strand *a = &g->strand[0], *b = &g->strand[1];
     struct gedrashiw_told_encoded_molecule molecule = {
-        {a->present, a->annotated, a->pattern}, {b->present, b->annotated, b->pattern}, g->listed, {g->ceiling}};
-    return gedrashiw_duplex_consensus(
+        {a->present, a->annotated, a->pattern}, {b->present, b->annotated, b->pattern}, g->listed, {g->ceiling, g->limit}};
+    return (g->product == PREVIEW ? gedrashiw_preview_consensus : gedrashiw_duplex_consensus)(
         molecule, a->of[BASES].at, a->of[BASES].len, a->of[QUALS].at, a->of[QUALS].len, a->of[DEPTHS].at, a->of[DEPTHS].len,
         a->of[ERRORS].at, a->of[ERRORS].len, a->of[EVIDENCE].at, a->of[EVIDENCE].len, b->of[BASES].at, b->of[BASES].len,
         b->of[QUALS].at, b->of[QUALS].len, b->of[DEPTHS].at, b->of[DEPTHS].len, b->of[ERRORS].at, b->of[ERRORS].len,
@@ -430,12 +464,14 @@ static inline uint8_t why_of_two(const struct strand *s, size_t i)
     return aq + bq <= 2 ? GEDRASHIW_REASON_LOW_SUM : GEDRASHIW_REASON_CALLED;
 }
 
-/* Reads play no part, broken or not, nor do outputs, nor a ceiling. */
+/* Reads play no part, broken or not, nor do outputs, nor a ceiling or a limit. */
 static inline struct gedrashiw_reason reason_expected(const struct duplex_given *g, size_t position)
 {
     struct duplex_given strands = *g;
     strands.listed = 0;
     strands.ceiling = HIGHEST_CEILING;
+    strands.product = BATCH;
+    strands.limit = MOST_POSITIONS;
     struct gedrashiw_reason r = {inputs_refused(&strands), GEDRASHIW_REASON_REFUSED};
     size_t positions;
     if (r.refused != 0)
@@ -458,7 +494,7 @@ static inline struct gedrashiw_reason reason_call(const struct duplex_given *g, 
         position);
 }
 
-/* Position number k of those that are asked about in a case: the first ones, both sides of each strand's end and of the limit, and the
+/* Position number k of those that are asked about in a case: the first ones, both sides of each strand's end and of the longest, and the
  * last machine words. There are so many. */
 enum { FIRST_ASKED = 24, ASKED = FIRST_ASKED + 8 };
 

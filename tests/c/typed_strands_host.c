@@ -40,21 +40,32 @@ static void some_strand(struct typed *t, size_t n)
         t->annotation = 0;
 }
 
-/* The row that applies to what is given of a strand: 7 or 8. */
-static uint8_t strand_refused(const struct typed *t, int annotated)
+/* The row that applies to what is given of a strand by a limit: 7, 19 or 8. */
+static uint8_t over_or_ragged(const struct typed *t, int annotated, size_t limit)
 {
-    int too_long = 0, ragged = 0;
+    size_t longest = 0;
+    int ragged = 0;
     for (int k = 0; k < (annotated ? T_LISTS : T_MARKS); k++) {
-        too_long |= t->of[k].n > MOST_POSITIONS;
+        longest = t->of[k].n > longest ? t->of[k].n : longest;
         ragged |= t->of[k].n != t->of[T_BASES].n;
     }
-    return too_long ? 7 : ragged ? 8 : 0;
+    return longest > MOST_POSITIONS ? 7 : longest > limit ? 19 : ragged ? 8 : 0;
+}
+
+/* Of an entry that takes none. */
+static uint8_t strand_refused(const struct typed *t, int annotated)
+{
+    return over_or_ragged(t, annotated, MOST_POSITIONS);
 }
 
 /* The row that comes first for two. */
 static uint8_t either(uint8_t one, uint8_t two)
 {
-    return one == 7 || two == 7 ? 7 : one != 0 ? one : two;
+    static const uint8_t order[] = {7, 19, 8, 0};
+    const uint8_t *first = order;
+    while (*first != 0 && *first != one && *first != two)
+        first++;
+    return *first;
 }
 
 /* The strand as reference.h has it, where nothing refuses it. */
@@ -149,21 +160,21 @@ static void try_combine(int annotated)
 {
     size_t a = some_length();
     uint8_t listed = some_answer();
-    struct gedrashiw_settings settings = {some_ceiling()};
+    struct gedrashiw_settings settings = {some_ceiling(), some_limit(a)};
     some_strand(&strands[0], a);
     some_strand(&strands[1], once_in(2) ? a : some_length());
     for (int k = 0; k < 2 && !annotated; k++)
         strands[k].annotation = 0;
     uint8_t refused = 0;
     for (int k = 0; k < 2; k++)
-        refused = either(refused, strand_refused(&strands[k], strands[k].annotation != 0));
+        refused = either(refused, over_or_ragged(&strands[k], strands[k].annotation != 0, settings.limit));
     if (ceiling_outside(settings.ceiling))
         refused = 14;
     if (strands[0].annotation > 2 || strands[1].annotation > 2)
         refused = 13;
     memset(&wanted, 0, sizeof wanted);
     if (refused == 0) {
-        given = (struct duplex_given){.listed = listed, .ceiling = settings.ceiling, .reads = {NULL, 0}};
+        given = (struct duplex_given){.listed = listed, .ceiling = settings.ceiling, .limit = settings.limit, .reads = {NULL, 0}};
         for (int k = 0; k < 2; k++)
             as_bytes(&strands[k], k, &given.strand[k]);
         size_t b = strands[1].of[T_BASES].n;
@@ -247,11 +258,12 @@ static struct array run_of(size_t n)
 }
 
 /* What the record must be of what is given, where no input is refused. */
-static void reckon(size_t n, uint8_t listed, uint8_t ceiling, uint8_t refused)
+static void reckon(size_t n, uint8_t listed, struct gedrashiw_settings settings, uint8_t refused)
 {
     memset(&wanted, 0, sizeof wanted);
     if (refused == 0) {
-        given = (struct duplex_given){.listed = listed, .ceiling = ceiling, .reads = run_of(listed ? n : 0)};
+        given = (struct duplex_given){
+            .listed = listed, .ceiling = settings.ceiling, .limit = settings.limit, .reads = run_of(listed ? n : 0)};
         for (int k = 0; k < 2; k++)
             if (strands[k].present)
                 as_bytes(&strands[k], k, &given.strand[k]);
@@ -262,10 +274,10 @@ static void reckon(size_t n, uint8_t listed, uint8_t ceiling, uint8_t refused)
     wanted_lists(&wanted, wanted.written[A_EVIDENCE_OUT] > 0, wanted.written[B_EVIDENCE_OUT] > 0);
 }
 
-static void consensus_is(size_t n, uint8_t listed, uint8_t ceiling, uint8_t refused)
+static void consensus_is(size_t n, uint8_t listed, struct gedrashiw_settings settings, uint8_t refused)
 {
     struct gedrashiw_told_molecule molecule = {
-        {strands[0].present, strands[0].annotation}, {strands[1].present, strands[1].annotation}, listed, {ceiling}};
+        {strands[0].present, strands[0].annotation}, {strands[1].present, strands[1].annotation}, listed, settings};
     EVERY_PLACE {
         struct gedrashiw_duplex_record r = gedrashiw_duplex_consensus_typed(
             molecule, ARRAYS_OF(strands[0]), ARRAYS_OF(strands[1]),
@@ -281,7 +293,8 @@ static void consensus_is(size_t n, uint8_t listed, uint8_t ceiling, uint8_t refu
 static void try_consensus(void)
 {
     size_t a = some_length(), n = some_length();
-    uint8_t listed = some_answer(), ceiling = some_ceiling();
+    uint8_t listed = some_answer();
+    struct gedrashiw_settings settings = {some_ceiling(), some_limit(a)};
     some_strand(&strands[0], a);
     some_strand(&strands[1], once_in(2) ? a : some_length());
     int leaves = some_reads(n), wrong = 0;
@@ -289,17 +302,17 @@ static void try_consensus(void)
     for (int k = 0; k < 2; k++)
         if (strands[k].present) {
             wrong |= strands[k].annotation > 2;
-            refused = either(refused, strand_refused(&strands[k], strands[k].annotation != 0));
+            refused = either(refused, over_or_ragged(&strands[k], strands[k].annotation != 0, settings.limit));
         }
-    refused = wrong                      ? 13
-              : ceiling_outside(ceiling) ? 14
-              : refused                  ? refused
-              : listed && n > MOST_READS ? 9
-              : listed && leaves         ? 10
-                                         : 0;
-    reckon(n, listed, ceiling, refused);
+    refused = wrong                               ? 13
+              : ceiling_outside(settings.ceiling) ? 14
+              : refused                           ? refused
+              : listed && n > MOST_READS          ? 9
+              : listed && leaves                  ? 10
+                                                  : 0;
+    reckon(n, listed, settings, refused);
     some_rooms(wanted.positions);
-    consensus_is(n, listed, ceiling, refused ? refused : room_refused(T_OUTPUTS));
+    consensus_is(n, listed, settings, refused ? refused : room_refused(T_OUTPUTS));
 }
 
 /* ---- why a position shows N */
@@ -418,15 +431,95 @@ static void one_round(void)
 }
 
 #ifndef FUZZED /* by tests/fuzz */
+/* The three entries that combine, on strands that are there; outputs have room for any record. */
+static void combined_at(uint16_t limit, uint8_t refused, uint8_t refused_plain)
+{
+    struct gedrashiw_settings settings = {60, limit};
+    reckon(0, 1, settings, refused);
+    for (int k = 0; k < T_OUTPUTS; k++)
+        room[k] = MOST_POSITIONS;
+    consensus_is(0, 1, settings, refused);
+    struct gedrashiw_told_strands told = {strands[0].annotation, strands[1].annotation, 1, settings};
+    EVERY_PLACE {
+        count_is("combine_strands_annotated",
+                 gedrashiw_combine_strands_annotated(told, ARRAYS_OF(strands[0]), ARRAYS_OF(strands[1]), RECORD_OUT,
+                                                     EVIDENCE_OUT(T_FIRST_EVIDENCE), EVIDENCE_OUT(T_SECOND_EVIDENCE)),
+                 refused, wanted.positions, T_OUTPUTS);
+        struct gedrashiw_count r = gedrashiw_combine_strands(1, settings, PLAIN_STRAND(strands[0]), PLAIN_STRAND(strands[1]), RECORD_OUT);
+        same("combine_strands", "refused", r.refused, refused_plain);
+        if (refused_plain != 0)
+            outputs_are("combine_strands", refused_plain, 0);
+        lent_count = 0; /* what is written otherwise is try_combine's */
+    }
+}
+
+/* One array of so many positions beside others of four: looked at, of no annotation, and of an absent strand. */
+static void one_array(int s, int k, uint16_t limit, size_t n)
+{
+    uint8_t four = limit < 4 ? 19 : 0, evidence = k >= T_MARKS;
+    uint8_t over = n > MOST_POSITIONS ? 7 : n > limit || four ? 19 : 8;
+    for (int each = 0; each < 2; each++) {
+        strands[each].present = 1;
+        strands[each].annotation = (uint8_t)(each + 1);
+        for (int list = 0; list < T_LISTS; list++)
+            strands[each].of[list].n = 4;
+    }
+    strands[s].of[k].n = n;
+    combined_at(limit, over, evidence ? four : over);
+    strands[s].annotation = 0;
+    combined_at(limit, evidence ? four : over, evidence ? four : over);
+    strands[s].annotation = (uint8_t)(s + 1);
+    strands[s].present = 0;
+    struct gedrashiw_settings settings = {60, limit};
+    reckon(0, 1, settings, four);
+    consensus_is(0, 1, settings, four);
+}
+
+/* Whole strands, the other of four positions or of as many. */
+static void whole_strands(uint16_t limit, size_t n)
+{
+    uint8_t refused = n > MOST_POSITIONS ? 7 : n > limit ? 19 : 0;
+    for (int which = 1; which < 4; which++) {
+        for (int s = 0; s < 2; s++)
+            for (int list = 0; list < T_LISTS; list++)
+                strands[s].of[list].n = which >> s & 1 ? n : 4;
+        strands[0].present = strands[1].present = 1;
+        strands[0].annotation = 1;
+        strands[1].annotation = 2;
+        combined_at(limit, refused, refused);
+    }
+}
+
+/* Limits and arrays at both ends of each. */
+static void each_size(void)
+{
+    static const uint16_t limits[] = {0, 3, 4, 255, 256, 257, 1023, 1024, 1025, 65535};
+    static const size_t sizes[] = {255, 256, 257, 1023, 1024, 1025};
+    for (int s = 0; s < 2; s++) {
+        do
+            some_strand(&strands[s], MOST_POSITIONS + 1);
+        while (strands[s].of[T_BASES].n < MOST_POSITIONS + 1);
+        for (size_t i = 0; i < MOST_POSITIONS + 1; i++)
+            strands[s].of[T_DEPTHS].v[i] = 1 + (uint32_t)i % 5;
+    }
+    for (size_t l = 0; l < sizeof limits / sizeof *limits; l++)
+        for (size_t n = 0; n < sizeof sizes / sizeof *sizes; n++) {
+            for (int k = 0; k < 2 * T_LISTS; k++)
+                one_array(k / T_LISTS, k % T_LISTS, limits[l], sizes[n]);
+            whole_strands(limits[l], sizes[n]);
+        }
+}
+
 /* Every choice of the rows that the record's entry has, in one of two ways: the first in their order is answered. */
 static void several_faults(void)
 {
-    static const uint8_t order[] = {13, 14, 7, 8, 9, 10, 12};
+    static const uint8_t order[] = {13, 14, 7, 19, 8, 9, 10, 12};
     enum { FAULTS = sizeof order };
     for (int faults = 0; faults < 1 << FAULTS; faults++)
         for (int way = 0; way < 2; way++) {
             int met[ROWS] = {0};
-            uint8_t refused = 0, ceiling = 60;
+            uint8_t refused = 0;
+            struct gedrashiw_settings settings = {60, 4};
             size_t n = 2;
             for (int k = FAULTS - 1; k >= 0; k--)
                 if (faults >> k & 1) {
@@ -443,14 +536,16 @@ static void several_faults(void)
             }
             while (some_reads(n))
                 ;
-            reckon(n, 1, ceiling, 0);
+            reckon(n, 1, settings, 0);
             for (int k = 0; k < T_OUTPUTS; k++)
                 room[k] = written[k].n;
             struct typed *one = &strands[way], *other = &strands[1 - way];
             if (met[13])
                 one->annotation = way ? 3 : 255;
             if (met[14])
-                ceiling = way ? GEDRASHIW_MAX_CEILING + 1 : GEDRASHIW_MIN_CEILING - 1;
+                settings.ceiling = way ? GEDRASHIW_MAX_CEILING + 1 : GEDRASHIW_MIN_CEILING - 1;
+            if (met[19])
+                settings.limit = way ? 0 : 3;
             if (met[7])
                 other->of[way ? T_QUALS : T_CONVERTED].n = MOST_POSITIONS + 1;
             if (met[8])
@@ -461,7 +556,7 @@ static void several_faults(void)
                 reads[1] = (struct gedrashiw_source_read){0x41, way ? SIZE_MAX : 0, way ? 1 : bytes.n + 1};
             if (met[12])
                 room[way ? T_SECOND_EVIDENCE : 1]--;
-            consensus_is(n, 1, ceiling, refused);
+            consensus_is(n, 1, settings, refused);
         }
 }
 
@@ -471,10 +566,11 @@ int main(void)
     for (int k = 0; k < 6000; k++)
         one_round();
     several_faults();
-    rows("combine_strands", "14 7 8 12");
-    rows("combine_strands_annotated", "13 14 7 8 12");
+    each_size();
+    rows("combine_strands", "14 7 19 8 12");
+    rows("combine_strands_annotated", "13 14 7 19 8 12");
     rows("gated_single_strand", "13 7 8 12");
-    rows("duplex_consensus_typed", "13 14 7 8 9 10 12");
+    rows("duplex_consensus_typed", "13 14 7 19 8 9 10 12");
     rows("no_call_reason_typed", "13 7 8");
     for (int k = 0; k <= GEDRASHIW_REASON_LOW_CONFIRMING; k++)
         check("no_call_reason_typed", reasons[k] > 0, "a reason did not occur");

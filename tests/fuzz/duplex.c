@@ -1,6 +1,7 @@
-/* Fuzzes gedrashiw_duplex_consensus, and gedrashiw_no_call_reason on the same strands. The head of an input: what is present, annotated and
- * listed, the patterns and the ceiling; the positions of each strand, the number of reads and the bases of their longest; a byte of the run
- * to change, and how; a change of each array's length, outputs counted from what is written; and where arrays lie in the second call. */
+/* Fuzzes gedrashiw_duplex_consensus and gedrashiw_preview_consensus, and gedrashiw_no_call_reason on the same strands. The head of an input:
+ * what is present, annotated and listed, the patterns, the ceiling and the limit; the positions of each strand, the number of reads and the
+ * bases of their longest; a byte of the run to change, and how; a change of each array's length, outputs counted from what is written; and
+ * where arrays lie in the second call. */
 #define _DEFAULT_SOURCE
 #include "fuzz.h"
 
@@ -24,6 +25,24 @@ static uint8_t taken_ceiling(struct source *s)
 {
     uint8_t n = take(s);
     return n < 250 ? n % (HIGHEST_CEILING + 3) : n;
+}
+
+/* Most often 1,024; else 256, near it, near a short strand's length, or any. */
+static uint16_t taken_limit(struct source *s)
+{
+    uint8_t form = take(s), n = take(s);
+    return (uint16_t)(form < 128   ? MOST_POSITIONS
+                      : form < 152 ? MOST_SHOWN
+                      : form < 176 ? MOST_SHOWN - 8 + n % 16
+                      : form < 224 ? n % 44
+                                   : form << 8 | n);
+}
+
+/* Most often below 40, else about 256 or 1,024. */
+static size_t taken_positions(struct source *s)
+{
+    size_t n = take(s);
+    return n < 216 ? n % 40 : n < 232 ? MOST_SHOWN - 8 + (n - 216) : MOST_POSITIONS - 12 + (n - 232);
 }
 
 /* A run of so many reads, then cut or made longer. */
@@ -86,9 +105,11 @@ static void plausible(const struct duplex_given *g, struct gedrashiw_duplex_reco
 {
     const struct strand *first = &g->strand[r.kind == B_ALONE ? 1 : 0];
     int wrote = r.refused == 0 && r.kind != NO_RECORD;
-    demand(r.refused == 0 || r.refused >= 12 || (r.refused >= 7 && r.refused <= 9), "0, 7, 8, 9, 12, 13 or 14");
-    demand(r.refused <= 14 && (r.refused == 13 || (r.refused == 14) == ceiling_outside(g->ceiling)), "14 for a ceiling outside, but for 13");
-    demand(r.kind <= BOTH && r.positions <= MOST_POSITIONS, "a kind and a length");
+    demand(r.refused == 0 || (r.refused >= 12 && r.refused <= 14) || (r.refused >= 7 && r.refused <= 9) || r.refused == 19,
+           "0, 7, 8, 9, 12, 13, 14 or 19");
+    demand(r.refused == 13 || (r.refused == 14) == ceiling_outside(g->ceiling), "14 for a ceiling outside, but for 13");
+    demand(r.refused != 19 || longest_array(g) > limit_of(g), "19 for an array over the limit");
+    demand(r.kind <= BOTH && r.positions <= MOST_POSITIONS && r.positions <= limit_of(g), "a kind and a length");
     demand(r.refused == 0 || r.kind == NO_RECORD, "no record where refused");
     demand((r.kind == NO_RECORD) == (r.positions == 0), "positions where there is a record");
     for (int k = 0; k < OUTPUTS; k++) {
@@ -103,24 +124,47 @@ static void plausible(const struct duplex_given *g, struct gedrashiw_duplex_reco
     }
 }
 
+/* An entry's answer and outputs, of the changed lengths: what holds of any, and the reference's. */
+static void entry_is_the_reference_s(struct duplex_given g, const uint8_t *change, int where)
+{
+    static struct duplex_wanted w;
+    uint8_t *out[OUTPUTS];
+    for (int k = 0; k < OUTPUTS; k++)
+        g.room[k] = MOST_POSITIONS * out_width[k];
+    duplex_expected(&g, &w);
+    for (int k = 0; k < OUTPUTS; k++) {
+        g.room[k] = changed(w.written[k], change[k]);
+        out[k] = exactly_patterned(g.room[k]);
+    }
+    struct gedrashiw_duplex_record r = duplex_call(&g, out);
+    plausible(&g, r, out);
+    again(&g, where, r, out);
+    duplex_expected(&g, &w);
+    demand(r.refused == w.refused && r.kind == w.kind && r.positions == w.positions, "the reference's answer");
+    for (int k = 0; k < OUTPUTS; k++) {
+        demand(same_bytes(out[k], w.out[k], w.written[k]), "the reference's outputs");
+        free(out[k]);
+    }
+}
+
 int LLVMFuzzerTestOneInput(const uint8_t *bytes, size_t size);
 
 int LLVMFuzzerTestOneInput(const uint8_t *bytes, size_t size)
 {
-    static struct duplex_wanted w;
     set_up();
     struct source s = {bytes, size, 0, 0};
     struct duplex_given g = {0};
-    uint8_t change[DUPLEX_INPUTS + OUTPUTS], *in[DUPLEX_INPUTS], *out[OUTPUTS];
+    uint8_t change[DUPLEX_INPUTS + OUTPUTS], *in[DUPLEX_INPUTS];
     size_t positions[2];
     for (int k = 0; k < 2; k++) {
         g.strand[k].present = take(&s);
         g.strand[k].annotated = take(&s);
         g.strand[k].pattern = take(&s);
-        positions[k] = take_count(&s, 40, MOST_POSITIONS);
+        positions[k] = taken_positions(&s);
     }
     g.listed = take(&s);
     g.ceiling = taken_ceiling(&s);
+    g.limit = taken_limit(&s);
     size_t count = take_count(&s, 12, MOST_READS), longest = take(&s) % (count > 12 ? 4 : LONGEST_READ), place = take_word(&s);
     uint8_t flip = take(&s);
     for (int k = 0; k < DUPLEX_INPUTS + OUTPUTS; k++)
@@ -133,25 +177,9 @@ int LLVMFuzzerTestOneInput(const uint8_t *bytes, size_t size)
         array->at = in[k] = exactly_taken(&s, array->len);
     }
     g.reads.at = in[2 * ARRAYS] = taken_run(&s, count, longest, place, flip, change[2 * ARRAYS], &g.reads.len);
-    for (int k = 0; k < OUTPUTS; k++)
-        g.room[k] = MOST_POSITIONS * out_width[k];
-    duplex_expected(&g, &w);
-    for (int k = 0; k < OUTPUTS; k++) {
-        g.room[k] = changed(w.written[k], change[DUPLEX_INPUTS + k]);
-        out[k] = exactly_patterned(g.room[k]);
-    }
-
-    struct gedrashiw_duplex_record r = duplex_call(&g, out);
-    plausible(&g, r, out);
-    again(&g, where, r, out);
+    entry_is_the_reference_s(g, change + DUPLEX_INPUTS, where);
+    entry_is_the_reference_s(previewed(&g), change + DUPLEX_INPUTS, where);
     reasons_are_the_reference_s(&g);
-
-    duplex_expected(&g, &w);
-    demand(r.refused == w.refused && r.kind == w.kind && r.positions == w.positions, "the reference's answer");
-    for (int k = 0; k < OUTPUTS; k++) {
-        demand(same_bytes(out[k], w.out[k], w.written[k]), "the reference's outputs");
-        free(out[k]);
-    }
     for (int k = 0; k < DUPLEX_INPUTS; k++)
         free(in[k]);
     return 0;

@@ -22,7 +22,7 @@ fn qualities(ceiling: u8) {
 
 fn record(name: &str, ceiling: u8, a: Strand, b: Strand, reads: Option<SourceReads>) {
     print!("{name} at {ceiling}:");
-    match Caller::duplex_consensus(Settings { ceiling }, a, b, reads) {
+    match Caller::duplex_consensus(Settings { ceiling, ..Settings::default() }, a, b, reads) {
         Err(refusal) => refused(refusal),
         Ok(None) => print!(" none"),
         Ok(Some(record)) => {
@@ -86,7 +86,7 @@ fn outside() {
     let cut = StrandBytes { counts: CountBytes { depths: &[1], ..counts }, ..whole };
     for (name, strand) in [("whole", whole), ("cut", cut)] {
         print!("a strand of {name} bytes at 94:");
-        match bytes::duplex_consensus(Settings { ceiling: 94 }, Some(&strand), None, None) {
+        match bytes::duplex_consensus(Settings { ceiling: 94, ..Settings::default() }, Some(&strand), None, None) {
             Err(refusal) => refused(refusal),
             Ok(record) => numbers(&record.map(|record| record.quals).unwrap_or_default()),
         }

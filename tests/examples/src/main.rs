@@ -1,6 +1,7 @@
-//! Document 01's examples of the calls, and document 02's of reasons for an N and of ceilings, one line each: what is asked, and what is
+//! Document 01's examples of the calls, and document 02's of reasons for an N, ceilings and limits, one line each: what is asked, and what is
 //! answered or left in the outputs. The file expected has what must be printed.
 mod ceilings;
+mod limits;
 mod reasons;
 mod tags;
 mod text;
@@ -244,4 +245,5 @@ fn main() {
     tags::all_tags();
     reasons::all_reasons();
     ceilings::all_ceilings();
+    limits::all_limits();
 }

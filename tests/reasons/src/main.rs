@@ -35,7 +35,7 @@ pub struct Ceilings(u8);
 impl Ceilings {
     fn next(&mut self) -> Settings {
         self.0 = (self.0 + 1) % (MAX_PHRED - MIN_CEILING + 1);
-        Settings { ceiling: MIN_CEILING + self.0 }
+        Settings { ceiling: MIN_CEILING + self.0, ..Settings::default() }
     }
 }
 
