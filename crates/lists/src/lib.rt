@@ -23,7 +23,10 @@ pub fn copy<T: Copy>(xs: &[T], out: &mut [T])
     ensures { out.new ≡ put (take (length out.old) xs.now) out.old }
 {
     let n = out.len().min(xs.len());
-    out[..n].copy_from_slice(&xs[..n]);
+    // By index: copy_from_slice calls memmove, which whoever links the library for C would have to bring.
+    for i in 0..n {
+        out[i] = xs[i];
+    }
 }
 
 // The first n elements, or all where there are fewer.
