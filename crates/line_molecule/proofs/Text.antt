@@ -5,7 +5,6 @@ use Prim.Native.Nat.{ℕ, ◌≤◌}
 use native.Mathlib.Omega.{arith}
 use lib.ListN.{length, replicate, length-replicate}
 use Rattle.std.proofs.Common.{Result, Ok, Err}
-use Rattle.std.specs.Result.{MatchResult}
 use Rattle.refusals.specs.declared.Refusal.{Refusal}
 use Rattle.refusals.specs.Refusal.{number_of}
 use Rattle.molecule_encoding.specs.Format.{MoleculeParts, decoded}
@@ -15,7 +14,7 @@ use Rattle.line_format.specs.Line.{refused_text}
 use Rattle.line_output.proofs.Text.{same_size, whole}
 use Rattle.line_record.specs.Line.{Holds}
 use Rattle.line_record.specs.declared.Line.{Line}
-use Rattle.line_molecule.specs.Line.{molecule_text, decoded_text, text_of, TextIn, parts_of, LineTold}
+use Rattle.line_molecule.specs.Line.{molecule_text, decoded_text, text_of, TextIn, parts_of}
 
 text_in : (text : List ℕ) (r : Line) → Holds text r → TextIn text r
 text_in text r h =
@@ -27,15 +26,10 @@ pub by_decoded : (bytes : List ℕ) {d : Result MoleculeParts Refusal} {r : Line
 unfolding text_of
 by_decoded bytes {d} {r} e h = text_in (decoded_text (decoded bytes)) r (subst (λ (x : Result MoleculeParts Refusal). Holds (decoded_text x) r) e h)
 
--- A molecule's text, or the refusal's, from what the reader and the molecule's line told.
-pub by_answer :
-    {P : Molecule → Type 0} {Q : Refusal → Type 0} (d : Result Molecule Refusal) (told : Result Line Refusal) {r : Line}
-    → MatchResult d P (λ refusal. told ≡ Err refusal)
-    → MatchResult told (λ line. r ≡ line) Q
-    → ((m : Molecule) → P m → LineTold (molecule_text (parts_of m)) told)
-    → ((refusal : Refusal) → Q refusal → Holds (refused_text (number_of refusal)) r)
-    → Holds (decoded_text (molecule_in d)) r
-by_answer (Ok m) (Ok line) h k f g = rw k (f m h)
-by_answer (Ok m) (Err refusal) h k f g = rw (f m h) (g refusal k)
-by_answer (Err refusal) (Ok line) h k f g = let z : ◌≡◌ {A = ℕ} 0 1 = cc in absurd (omega arith)
-by_answer (Err refusal) (Err other) h k f g = let same : refusal ≡ other = cc in rw same (g other k)
+-- The text by what the reader answered: the refusal's, or the molecule's.
+module _ (d : Result Molecule Refusal) {r : Line} where
+  pub by_refusal : {refusal : Refusal} → d ≡ Err refusal → Holds (refused_text (number_of refusal)) r → Holds (decoded_text (molecule_in d)) r
+  by_refusal e h = rw e h
+
+  pub by_molecule : {m : Molecule} → d ≡ Ok m → Holds (molecule_text (parts_of m)) r → Holds (decoded_text (molecule_in d)) r
+  by_molecule e h = rw e h

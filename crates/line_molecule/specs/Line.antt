@@ -53,11 +53,6 @@ decoded_text (Ok m) = molecule_text m
 unfoldable pub text_of : List ℕ → List ℕ
 text_of bytes = decoded_text (decoded bytes)
 
--- A line that holds a text, or the refusal whose text that is.
-abbrev pub LineTold : List ℕ → Result Line Refusal → Type 0
-LineTold text (Ok line) = Holds text line
-LineTold text (Err refusal) = text ≡ refused_text (number_of refusal)
-
 -- What a text is returned in: its length, and its bytes at the front of an array of zeros.
 pub record TextIn (text : List ℕ) (r : Line) : Type 0 where
   pub size : r.length ≡ length text

@@ -6,7 +6,8 @@
 ghost use Rattle.std.specs.Prelude.{◌≡◌, drop, get_or};
 ghost use Rattle.molecule_encoding.specs.Parts.{parts_in};
 ghost use Rattle.molecule_strand.specs.Strand.{encoded_pattern, encoded_in};
-ghost use Rattle.line_molecule.specs.Line.{strand_in, parts_of, molecule_text, text_of, TextIn, LineTold};
+ghost use Rattle.line_molecule.specs.Line.{strand_in, parts_of, molecule_text, text_of, TextIn};
+ghost use Rattle.line_record.specs.Line.{Holds};
 
 use duplex_min_reads::validate_min_reads;
 use line_record::{Line, refused_line};
@@ -41,9 +42,10 @@ fn strand_of<'a>(s: Option<StrandFields<'a>>) -> Option<EncodedStrand<'a>>
     })
 }
 
-// The line of a molecule, or the refusal of its thresholds. More than 4 are refused as 4 are, so that no more are read.
-fn molecule_line(m: Molecule) -> Result<Line, Refusal>
-    ensures { LineTold (molecule_text (parts_of m.entry)) result }
+// The line of a molecule. A refusal of its thresholds ends it before the strands are looked at. More than 4 are refused as 4 are, so that
+// no more are read.
+fn molecule_line(m: Molecule) -> Line
+    ensures { Holds (molecule_text (parts_of m.entry)) result }
 {
     let values = m.thresholds.unwrap_or(&[]);
     // No heap: room for the 4.
@@ -51,20 +53,24 @@ fn molecule_line(m: Molecule) -> Result<Line, Refusal>
     byte_numbers::read(values, &mut thresholds);
     let count = (values.len() / 4).min(4);
     let min_reads = &thresholds[..count];
-    validate_min_reads(min_reads)?;
+    let answer = validate_min_reads(min_reads);
+    let Ok(_) = answer else {
+        return refused_line(answer.err().map_or(0, Refusal::number));
+    };
     let encoded = EncodedMolecule {
         a: strand_of(m.a),
         b: strand_of(m.b),
         reads: m.reads,
     };
-    Ok(strands_line(encoded, min_reads))
+    strands_line(encoded, min_reads)
 }
 
 // The text for the bytes of an encoded molecule.
 pub fn duplex_line(bytes: &[u8]) -> Line
     ensures { TextIn (text_of bytes.now) result }
 {
-    read_molecule(bytes)
-        .and_then(molecule_line)
-        .unwrap_or_else(|refusal| refused_line(refusal.number()))
+    match read_molecule(bytes) {
+        Err(refusal) => refused_line(refusal.number()),
+        Ok(m) => molecule_line(m),
+    }
 }

@@ -1,6 +1,6 @@
 // The text that duplexline prints for two strands given as bytes, once the thresholds are known to be valid. Uses refusals,
-// settings, byte_numbers, duplex_outputs, duplex_kind, duplex_metrics, molecule_strand, molecule_errors, molecule_consensus, line_format,
-// line_record and line_report.
+// settings, byte_numbers, molecule_evidence, duplex_outputs, duplex_kind, duplex_metrics, molecule_strand, molecule_errors,
+// molecule_consensus, line_format, line_record and line_report.
 #![tactic(auto)]
 
 ghost use Rattle.std.specs.Prelude.{◌≡◌, is_some};
@@ -16,6 +16,7 @@ use duplex_metrics::Counts;
 use line_format::RecordColumns;
 use line_record::{Line, record_line};
 use molecule_consensus::{EncodedMolecule, RecordBuffers};
+use molecule_evidence::EvidenceBuffers;
 use molecule_strand::EncodedStrand;
 use refusals::Refusal;
 use settings::Settings;
@@ -44,7 +45,22 @@ fn numbered(made: Result<Option<DuplexConsensus>, Refusal>) -> Result<Option<Dup
 pub fn strands_line(m: EncodedMolecule, min_reads: &[u32]) -> Line
     ensures { Holds (strands_text min_reads.now (encoded_in m.entry.a) (encoded_in m.entry.b) (is_some m.entry.reads) (run_in m.entry.reads)) result }
 {
-    let mut own = RecordBuffers::zeros();
+    // Array by array, and not by a call that makes them: what is made elsewhere is copied here, and takes its room on the stack twice.
+    let mut own = RecordBuffers {
+        bases: [0; 1024],
+        quals: [0; 1024],
+        errors: [0; 1024],
+        a: EvidenceBuffers {
+            marks: [0; 1024],
+            unconverted: [0; 1024],
+            converted: [0; 1024],
+        },
+        b: EvidenceBuffers {
+            marks: [0; 1024],
+            unconverted: [0; 1024],
+            converted: [0; 1024],
+        },
+    };
     let made = own.duplex_consensus_of_bytes(Settings::usual(), m);
     let row = RecordColumns {
         bases: &own.bases,
