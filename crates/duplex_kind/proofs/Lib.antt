@@ -2,3 +2,4 @@ pub mod Absent
 pub mod Examples
 pub mod Kind
 pub mod Limit
+pub mod Blocks

@@ -1,5 +1,5 @@
 -- Which record two strands make, document 01.
-use Rattle.std.specs.Prelude.{Option, Some, None, Result, ℕ, min, Bool, true, false, cond, ◌&&◌, ◌||◌, ltb, length, take}
+use Rattle.std.specs.Prelude.{Option, Some, None, Result, ℕ, min, Bool, true, false, cond, ◌&&◌, ◌||◌, ltb, length, take, fold}
 use Rattle.std.specs.List.{list_any}
 use mathlib.Core.List.{List, [], ◌∷◌}
 use Rattle.refusals.specs.declared.Refusal.{Refusal}
@@ -72,6 +72,10 @@ record_length a b = shorter_present (given a) (given b)
 -- Some depth is above 0.
 abbrev pub some_depth : List ℕ → Bool
 some_depth depths = list_any (ltb 0) depths
+
+-- The same, of depths that are all looked at.
+abbrev pub any_depth : List ℕ → Bool
+any_depth depths = fold (λ met depth. met || ltb 0 depth) false depths
 
 -- A strand counts only if some depth within the record's length is above 0.
 abbrev pub counts : ℕ → Given → Bool
