@@ -1,13 +1,13 @@
 -- The read that begins at a place of a run, by what the bytes from there on begin with.
---     none_next, cut_next, next_is     what `next_read` is
+--     end_next, none_next, cut_next, next_is     what `next_read` is
 --     parted      a field's header, its value and the bytes after it are all from its place on
 -- Assumes nothing.
-use mathlib.Core.Path.{◌≡◌, sym, ap, ◌∙◌}
+use mathlib.Core.Path.{◌≡◌, refl, sym, ap, ◌∙◌}
 use mathlib.Core.Bool.{cond}
-use mathlib.Core.List.{List}
-use Prim.Native.Nat.{ℕ, ◌+◌, ◌-◌}
+use mathlib.Core.List.{List, []}
+use Prim.Native.Nat.{ℕ, ◌+◌, ◌-◌, ◌≤◌}
 use native.Mathlib.Omega.{arith}
-use lib.ListN.{length, drop, length-drop}
+use lib.ListN.{length, drop, length-drop, drop_of_length-le}
 use Rattle.std.proofs.Common.{Some, None, Ok, Err}
 use Rattle.fields.specs.Encoding.{Field, Front, nothing, cut, whole, front, located, next_field}
 use Rattle.fields.proofs.Walk.{stands}
@@ -19,6 +19,12 @@ module _ (run : List ℕ) (at : ℕ) where
   pub none_next : front (drop at run) ≡ nothing → next_read run at ≡ Ok None
   unfolding next_read next_field
   none_next e = rw e
+
+  pub end_next : length run ≤ at → next_read run at ≡ Ok None
+  unfolding front
+  end_next h =
+      let none_left : drop at run ≡ [] = drop_of_length-le run h in
+      none_next (rw none_left refl)
 
   pub cut_next : front (drop at run) ≡ cut → next_read run at ≡ Err Broken
   unfolding next_read next_field

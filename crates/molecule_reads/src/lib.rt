@@ -24,10 +24,14 @@ fn bytes_from(run: &[u8], at: usize) -> &[u8]
 
 // The read that begins at a place of a run, or none where no bytes are left. The next one begins at its offset plus its length
 // (`NextReads`). Refuses by 13 where what is left does not begin with a whole field that is a read.
-#[tactic(auto, using(crate::proofs::Next::none_next, crate::proofs::Next::cut_next, crate::proofs::Next::next_is, crate::proofs::Next::parted))]
+#[tactic(auto, using(crate::proofs::Next::end_next, crate::proofs::Next::none_next, crate::proofs::Next::cut_next, crate::proofs::Next::next_is, crate::proofs::Next::parted))]
 pub fn next_read(run: &[u8], at: usize) -> Result<Option<SourceRead>, Refusal>
     ensures { result ≡ next_read run.now at }
 {
+    // Speed: behind this branch there are bytes, and a walk need not wait for what stands where there are none, which took half as long again.
+    if run.len() <= at {
+        return Ok(None);
+    }
     let Some(f) = next_field(bytes_from(run, at))? else {
         return Ok(None);
     };
