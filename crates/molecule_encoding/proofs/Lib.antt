@@ -4,3 +4,4 @@ pub mod Accepted
 pub mod Claims
 pub mod Parts
 pub mod Examples
+pub mod Places

@@ -4,11 +4,12 @@
 --     past             no field is below a tag that all come after
 --     place_there, value_there     a tag has a place, and a value, exactly where a field has the tag
 --     value_placed, value_found     what stands at the place of a tag's value is the value
+--     placed_within     that place is within the bytes
 -- Assumes nothing.
 use mathlib.Core.Path.{◌≡◌, refl, sym, ap, ◌∙◌}
 use mathlib.Core.Bool.{Bool, true, false, cond, ◌||◌}
 use mathlib.Core.List.{List, [], ◌∷◌}
-use Prim.Native.Nat.{ℕ, ◌+◌, ◌<◌}
+use Prim.Native.Nat.{ℕ, ◌+◌, ◌<◌, ◌≤◌}
 use native.Mathlib.Omega.{arith}
 use borrow.Author.Tests.{eq-eqb, ne_eqb}
 use lib.Dec.{eqb}
@@ -106,12 +107,38 @@ module _ (bytes : List ℕ) (tag : ℕ) where
       go true later = refl
       go false later = later
 
-  value_placed : value_of_found (found_at bytes (place_of tag (whole_fields bytes))) ≡ value_of tag (whole_fields bytes)
+  pub value_placed : value_of_found (found_at bytes (place_of tag (whole_fields bytes))) ≡ value_of tag (whole_fields bytes)
   value_placed = along bytes Holds holds_none holds_whole 0
 
   -- The value of what is found is the value of the tag.
   pub value_found : {found : Option (Field × List ℕ)} → found ≡ found_at bytes (place_of tag (whole_fields bytes)) → value_of_found found ≡ value_of tag (whole_fields bytes)
   value_found e = ap value_of_found e ∙ value_placed
+
+-- A field's place, where there is one, is within some bytes, and the value there is as long as it says.
+abbrev pub Within : List ℕ → Option FieldAt → Type 0
+Within bytes None = Unit {0}
+Within bytes (Some f) = (f.offset + f.length ≤ length bytes) × (length (field_at bytes f).value ≡ f.length)
+
+module _ (bytes : List ℕ) (tag : ℕ) where
+  abbrev From : ℕ → Type 0
+  From at = Within bytes (place_from at tag (whole_fields (drop at bytes)))
+
+  within_none : (at : ℕ) → whole_fields (drop at bytes) ≡ [] → From at
+  unfolding place_from
+  within_none at e = rw e tt
+
+  within_whole : (at : ℕ) (f : FieldAt) → BeginsAt bytes at f → From (f.offset + f.length) → From at
+  within_whole at f b later = rw (place_opened bytes at tag b) (go (eqb f.tag tag) later)
+    where
+      go :
+          (here : Bool)
+          → From (f.offset + f.length)
+          → Within bytes (cond here (Some f) (place_from (f.offset + f.length) tag (whole_fields (drop (f.offset + f.length) bytes))))
+      go true later = (b.within, b.sized)
+      go false later = later
+
+  pub placed_within : Within bytes (place_of tag (whole_fields bytes))
+  placed_within = along bytes From within_none within_whole 0
 
 -- A search for a tag that has come to the bytes from a place on.
 pub record Searching (bytes : List ℕ) (tag : ℕ) (rest : List ℕ) : Type 0 where

@@ -2,3 +2,4 @@ pub mod Claims
 pub mod Format
 pub mod Parts
 pub mod Small
+pub mod Places

@@ -3,9 +3,10 @@
 // of the caller's bytes. Uses lists, refusals, fields and molecule_fields.
 #![tactic(auto)]
 
-ghost use Rattle.std.specs.Prelude.{◌≡◌, ◌≤◌};
+ghost use Rattle.std.specs.Prelude.{◌≡◌, ◌≤◌, length};
 ghost use Rattle.fields.specs.Encoding.{whole_fields};
 ghost use Rattle.molecule_encoding.specs.Format.{follows, place_of, found_at, value_of, strand_read, reads_read, checked, decoded};
+ghost use Rattle.molecule_encoding.specs.Places.{span_of, strand_places, after_at, placed};
 ghost use Rattle.molecule_encoding.specs.Parts.{found_in, fields_in, value_in, strand_in, reads_in, molecule_in};
 
 mod ordered;
@@ -36,6 +37,32 @@ pub struct Molecule<'a> {
     pub a: Option<StrandFields<'a>>,
     pub b: Option<StrandFields<'a>>,
     pub reads: Option<&'a [u8]>,
+}
+
+// Where a part is in the bytes.
+#[derive(Clone, Copy, Debug, PartialEq, Eq)]
+pub struct Span {
+    pub offset: usize,
+    pub length: usize,
+}
+
+// Where the values of a strand's fields are.
+#[derive(Clone, Copy, Debug, PartialEq, Eq)]
+pub struct StrandPlaces {
+    pub bases: Span,
+    pub quals: Span,
+    pub depths: Span,
+    pub errors: Span,
+    pub annotation: Option<Span>,
+}
+
+// Where the parts of a molecule are that are there, for a caller that keeps the bytes and not slices of them.
+#[derive(Clone, Copy, Debug, PartialEq, Eq)]
+pub struct MoleculePlaces {
+    pub thresholds: Option<Span>,
+    pub a: Option<StrandPlaces>,
+    pub b: Option<StrandPlaces>,
+    pub reads: Option<Span>,
 }
 
 // A tag comes after another: it is above it, or both are reads.
@@ -125,6 +152,53 @@ impl<'a> OrderedFields<'a> {
             }
         }
     }
+
+    // Where the value of the field with a tag is.
+    fn place(self, tag: u8) -> Option<Span>
+        ensures { result ≡ span_of tag (whole_fields self.entry.bytes.now) }
+    {
+        let f = self.find(tag)?;
+        let length = f.value.len();
+        let end = self.bytes.len() - f.rest.len();
+        Some(Span {
+            offset: end - length,
+            length,
+        })
+    }
+
+    // Where a strand's values are.
+    fn strand_places(self, first: u8) -> Option<StrandPlaces>
+        requires { first ≤ 0x20 }
+        ensures { result ≡ strand_places first (whole_fields self.entry.bytes.now) }
+    {
+        let bases = self.place(first);
+        let quals = self.place(first + 1);
+        let depths = self.place(first + 2);
+        let errors = self.place(first + 3);
+        let annotation = self.place(first + 4);
+        match (bases, quals, depths, errors) {
+            (Some(bases), Some(quals), Some(depths), Some(errors)) => Some(StrandPlaces {
+                bases,
+                quals,
+                depths,
+                errors,
+                annotation,
+            }),
+            _ => None,
+        }
+    }
+
+    // Where all is that stands after the list's marker.
+    fn reads_place(self) -> Option<Span>
+        ensures { result ≡ after_at (length self.entry.bytes.now) (place_of 0x2f (whole_fields self.entry.bytes.now)) }
+    {
+        let marker = self.find(READ_LIST)?;
+        let length = marker.rest.len();
+        Some(Span {
+            offset: self.bytes.len() - length,
+            length,
+        })
+    }
 }
 
 // The molecule that the bytes encode. Refuses by 13.
@@ -142,5 +216,19 @@ pub fn read_molecule(bytes: &[u8]) -> Result<Molecule<'_>, Refusal>
         a,
         b,
         reads,
+    })
+}
+
+// Where the parts of the molecule are that the bytes encode: `read_molecule` answers what stands there. Refuses by 13.
+pub fn molecule_places(bytes: &[u8]) -> Result<MoleculePlaces, Refusal>
+    ensures { result ≡ placed bytes.now }
+{
+    read_molecule(bytes)?;
+    let fields = OrderedFields { bytes };
+    Ok(MoleculePlaces {
+        thresholds: fields.place(THRESHOLDS),
+        a: fields.strand_places(STRAND_A),
+        b: fields.strand_places(STRAND_B),
+        reads: fields.reads_place(),
     })
 }
