@@ -6,7 +6,7 @@
 ghost use Rattle.std.specs.Prelude.{◌≡◌};
 ghost use Rattle.duplex_kind.specs.Kind.{given_of};
 ghost use Rattle.duplex_reason.specs.Reason.{carries, converted_by, others_alone, disagree, sum_counts, holds, quality_reasons, first_of, reason_at};
-ghost use Rattle.duplex_reason.specs.Record.{shown_at, within, reason_told, reason_of};
+ghost use Rattle.duplex_reason.specs.Record.{shown_in, shown_at, within, reason_told, reason_of};
 
 use dna::{NO_CALL_BASE, eq_ignore_ascii_case, to_ascii_uppercase};
 use duplex_kind::{DuplexConsensus, given_strand, record_kind};
@@ -159,6 +159,24 @@ pub fn reason_at(a: Shown, b: Shown) -> NoCallReason
     reason_by_quality(a, b)
 }
 
+// What a strand with these arrays shows at a position; zeros past an array's end. The mark is told with an annotation or without.
+pub fn shown_in(
+    annotation: Option<ConversionPattern>,
+    bases: &[u8],
+    quals: &[u8],
+    marks: &[u8],
+    position: usize,
+) -> Shown
+    ensures { result ≡ shown_in annotation bases.now quals.now marks.now position }
+{
+    Shown {
+        annotation,
+        base: get_or(bases, position, 0),
+        qual: get_or(quals, position, 0),
+        mark: get_or(marks, position, 0),
+    }
+}
+
 // What a strand that may be absent shows at a position; zeros past its end. Of its slices bases, quals and marks are looked at: the others
 // may be empty.
 pub fn shown_at(s: Option<VanillaConsensusRead>, position: usize) -> Shown
@@ -166,12 +184,13 @@ pub fn shown_at(s: Option<VanillaConsensusRead>, position: usize) -> Shown
 {
     s.map_or(
         Shown::default(),
-        |s| Shown {
-            annotation: s.annotation(),
-            base: get_or(s.bases, position, 0),
-            qual: get_or(s.quals, position, 0),
-            mark: get_or(s.evidence().marks, position, 0),
-        },
+        |s| shown_in(
+            s.annotation(),
+            s.bases,
+            s.quals,
+            s.evidence().marks,
+            position,
+        ),
     )
 }
 
