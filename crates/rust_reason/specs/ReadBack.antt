@@ -22,7 +22,7 @@ named number =
     (cond (eqb number 10) (Some LowConfirming) None)))))))))
 
 pub record ReadBack : Type 0 where
-  pub handed_on : (number : ℕ) → (reason_told (Err number)).refused ≡ number
+  pub handed_on : (number : ℕ) → reason_told (Err number) ≡ record { refused = number; reason = 0 }
   pub refusals : (row : Refusal) → reason_for (Err row) ≡ record { refused = number_of row; reason = 0 }
   pub passes : (x : NoCallReason) → (reason_for (Ok x)).refused ≡ 0
   pub answers : (x : NoCallReason) → named (reason_for (Ok x)).reason ≡ Some x
