@@ -89,7 +89,7 @@ impl LittleEndian for u32 {
 
     #[tactic(auto, using(crate::proofs::Bytes::le_bytes32))]
     fn write_bytes(self, out: &mut [u8]) {
-        copy(&self.to_le_bytes(), out);
+        copy(&u32::to_le_bytes(self), out);
     }
 }
 

@@ -12,7 +12,7 @@ use refusals::{MAX_READS, Refusal, refuse};
 
 // A read's MI as a part of a byte buffer, or none, as C lays it out.
 #[repr(C)]
-#[derive(Clone, Copy)]
+#[derive(Clone, Copy, Debug, Default, PartialEq, Eq)]
 pub struct MiPart {
     // Whether there is one (0: no).
     pub present: usize,
