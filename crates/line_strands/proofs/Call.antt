@@ -35,8 +35,9 @@ module _ (ts : List ℕ) (a b : StrandBytes) (listed : Bool) (run : List ℕ) {n
   unfolding strands_text
   same_text = rw (e.answered, e.outputs.bases, e.outputs.quals, e.outputs.errors, inputs_alone (seen a) (seen b) listed run buffers ample)
 
-  pub from_call : {r : Line} → length now.bases ≡ 1024 → length now.quals ≡ 1024 → length now.errors ≡ 1024 → HoldsOf found (columns now.bases now.quals now.errors) r → Holds (strands_text ts a b listed run) r
-  from_call {r} b_size q_size e_size h = record {
+  -- The text before the lengths, so that wrong columns are refused for what they print.
+  pub from_call : {r : Line} → HoldsOf found (columns now.bases now.quals now.errors) r → length now.bases ≡ 1024 → length now.quals ≡ 1024 → length now.errors ≡ 1024 → Holds (strands_text ts a b listed run) r
+  from_call {r} h b_size q_size e_size = record {
     written = subst (λ (t : List ℕ). Within t r) same_text h.written;
     fits = subst Fits same_text (h.fits record { bases = omega arith; quals = omega arith; errors = omega arith });
   }

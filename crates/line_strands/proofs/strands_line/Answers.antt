@@ -12,5 +12,4 @@ returns c =
     let line = rw (c.numbered.ensures, c.count_bytes.ensures, c.count_bytes-2.ensures) at c.record_line.ensures in
     from_call a.min_reads.now (encoded_in a.m.a) (encoded_in a.m.b) (is_some a.m.reads) (run_in a.m.reads)
     (rw c.usual.ensures at c.duplex_consensus_of_bytes-made.ensures)
-    (search rules) (search rules) (search rules)
-    (search (rules, line))
+    line (search rules) (search rules) (search rules)
